@@ -1,0 +1,4 @@
+pub mod OrderLaws
+pub mod NameLaws
+pub mod VarintLaws
+pub mod ReadingLaws

@@ -1,0 +1,4 @@
+use Rattle.xdb_key.proofs.varint.+read_more.Given as goal
+
+abbrev pub decreases-read_more : goal.decreases-read_more
+decreases-read_more l = l.most

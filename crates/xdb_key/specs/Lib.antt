@@ -1,0 +1,12 @@
+pub mod Limits
+pub mod Order
+pub mod Bounds
+pub mod Name
+pub mod NameKept
+pub mod Refused
+pub mod Kinds
+pub mod Entries
+pub mod Ops
+pub mod Groups
+pub mod Reading
+pub mod Varint
