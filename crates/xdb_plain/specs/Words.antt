@@ -1,6 +1,7 @@
 -- How commands are spelled: as words, with one space between two.
 use Rattle.std.specs.Prelude.{ℕ, ◌+◌, ◌/◌, ◌%◌, Bool, true, false, ◌&&◌, ◌||◌, List, [], ◌∷◌, ◌++◌, nat_lt, nat_le, ◌==◌, if◌then◌else◌, codes}
 use Rattle.std.specs.List.{flat_map}
+use Rattle.std.specs.Fmt.{decimal}
 use Rattle.xdb_key.specs.Bounds.{Bounds}
 use Rattle.xdb_key.specs.declared.op.Op.{Op}
 use Rattle.xdb_key.specs.declared.op.Op.TheVariants as op
@@ -33,11 +34,8 @@ string_word [] = codes "\"\""
 string_word (b ∷ bs) = flat_map byte_word (b ∷ bs)
 
 -- `c` and the client's number
-abbrev pub client_word : ℕ → List ℕ
-client_word n = if nat_lt n 10 then 99 ∷ (48 + n) ∷ [] else 99 ∷ 49 ∷ (38 + n) ∷ []
-
 abbrev pub by_word : By → List ℕ
-by_word (Client n) = client_word n
+by_word (Client n) = 99 ∷ decimal n
 by_word Db = codes "db"
 
 abbrev pub span_words : List ℕ → Bounds → List (List ℕ)
@@ -51,8 +49,7 @@ op_words (op.DelSpan range) = span_words (codes "delspan") range
 -- operations with a `;` between two
 abbrev pub ops_words : List Op → List (List ℕ)
 ops_words [] = []
-ops_words (o ∷ []) = op_words o
-ops_words (o ∷ next ∷ ops) = op_words o ++ codes ";" ∷ ops_words (next ∷ ops)
+ops_words (o ∷ ops) = op_words o ++ flat_map (λ next. codes ";" ∷ op_words next) ops
 
 -- a commit of one operation of its form goes by that form, and every other one is a batch
 abbrev pub commit_words : CommitForm → List Op → List (List ℕ)

@@ -1,0 +1,76 @@
+-- From the parts of a call to what it has read and written.
+use Rattle.std.proofs.Common.{◌≡◌, ◌≢◌, ◌⊎◌, ℕ, ◌+◌, ◌<◌, ◌≤◌, Bool, true, false, not, ◌&&◌, List, [], ◌∷◌, ◌++◌, length, take, Option, Some, None, refl, sym, ap, subst, ◌∙◌, inl, inr, arith}
+use Rattle.std.specs.List.{list_all}
+use Rattle.std.specs.Io.KnownBytes.{Appends, Consumes, IsAtEnd, prepend_known, append_known}
+use Rattle.std.proofs.lemmas.Bool.{and_from, cases_lt}
+use Rattle.xdb_device.specs.Streams.{Grew}
+use Rattle.xdb_plain.specs.declared.act.CommitForm.{CommitForm}
+use Rattle.xdb_plain.specs.declared.act.Question.TheVariants.{Get}
+use Rattle.xdb_plain.specs.declared.script.Cmd.{Cmd}
+use Rattle.xdb_plain.specs.declared.script.Cmd.TheVariants as cmd
+use Rattle.xdb_plain.specs.declared.script.Line.{Line}
+use Rattle.xdb_plain.specs.Steps.{is_by_client}
+use Rattle.excisedb.specs.Grammar.{IsCommand, IsLine, AreLines, Spells, most_bytes}
+use Rattle.excisedb.specs.Kept.{is_whole, is_run}
+use Rattle.excisedb.specs.Ends.{run_words, usage_text, form_text, AreRead, IsReply, IsRefusal, IsUsage, IsAnswered, MayWrite, WritesWhole, WritesPart, Ends}
+use Rattle.excisedb.specs.Outcome.{Replies, IsPart, IsSent}
+use Rattle.excisedb.specs.declared.status.Status.{Status}
+use Rattle.excisedb.specs.declared.status.Status.TheVariants.{Done, Words, Script, ReadFault, WriteFault, Memory}
+
+whole-command : (c : Cmd) → IsCommand c → is_whole c ≡ true
+whole-command (cmd.Commit form ops) is = refl
+whole-command (cmd.Ask (Get key) parted) is = is.1
+
+-- the lines that are spelled can be run
+pub lines-run : (number : ℕ) (parts : List (List ℕ)) (lines : List Line) → AreLines number parts lines → list_all is_run lines ≡ true
+lines-run number [] [] h = refl
+lines-run number [] (line ∷ lines) h = absurd h
+lines-run number (part ∷ parts) [] h = absurd h
+lines-run number (part ∷ parts) (line ∷ lines) h =
+    and_from (is_run line) (list_all is_run lines) (and_from (is_by_client line.by) (is_whole line.cmd) h.0.client (whole-command line.cmd h.0.command)) (lines-run (number + 1) parts lines h.1)
+
+appends : (old new : Option (List ℕ)) (text : List ℕ) → new ≡ append_known old text → Appends old new text
+appends None new text e = tt
+appends (Some xs) None text e = absurd (cc)
+appends (Some xs) (Some ys) text e = cc
+
+consumes : (left left' : Option (List ℕ)) (bytes : List ℕ) → prepend_known bytes left' ≡ prepend_known [] left → Consumes left left' bytes
+consumes None left' bytes e = tt
+consumes (Some xs) None bytes e = absurd (cc)
+consumes (Some xs) (Some ys) bytes e = cc
+
+-- all that were left were read, or as many as may be
+pub are-read : (left left' : Option (List ℕ)) (before bytes : List ℕ) (n : ℕ) → before ≡ [] → prepend_known bytes left' ≡ prepend_known before left → Grew n before bytes → n ≤ most_bytes + 1 → (n < most_bytes + 1 → IsAtEnd left') → AreRead left left' bytes
+are-read left left' before bytes n none taken grew most ended =
+    let by : length bytes ≡ length before + n = grew.by in
+    let empty : length before ≡ 0 = ap length none in
+    record {
+      consumed = consumes left left' bytes (taken ∙ ap (λ xs. prepend_known xs left) none);
+      whole = elim (cases_lt n (most_bytes + 1)) [ inl less ↦ inl (ended less) | inr full ↦ inr (omega arith) ];
+    }
+
+sent-ends : (status result : Status) (words : List (List ℕ)) (left left' old new : Option (List ℕ)) (text : List ℕ) → MayWrite words left left' text → (Appends old new text → Ends status words left left' old new) → IsSent status text old new result → Ends result words left left' old new
+sent-ends status result words left left' old new text may whole (inl sent) = subst (λ s. Ends s words left left' old new) (sym sent.0) (whole (appends old new text sent.1))
+sent-ends status result words left left' old new text may whole (inr (inl fault, part)) =
+    subst (λ s. Ends s words left left' old new) (sym fault) (record { text = text; is = may; count = part.count; within = part.within; written = appends old new (take part.count text) part.written })
+sent-ends status result words left left' old new text may whole (inr (inr lack, part)) =
+    subst (λ s. Ends s words left left' old new) (sym lack) (inr (record { text = text; is = may; count = part.count; within = part.within; written = appends old new (take part.count text) part.written }))
+
+-- other words
+pub usage-ends : (result : Status) (words : List (List ℕ)) (left old new : Option (List ℕ)) → (words ≡ run_words → ⊥) → IsSent Words usage_text old new result → Ends result words left left old new
+usage-ends result words left old new others sent =
+    let usage : IsUsage words left left usage_text = record { others = others; alone = refl; told = refl } in
+    sent-ends Words result words left left old new usage_text (inl usage) (λ written. record { text = usage_text; is = usage; written = written }) sent
+
+-- the command
+pub reply-ends : (status result : Status) (words : List (List ℕ)) (left left' old new : Option (List ℕ)) (bytes text : List ℕ) → words ≡ run_words → AreRead left left' bytes → Replies bytes status text → IsSent status text old new result → Ends result words left left' old new
+reply-ends Done result words left left' old new bytes text run read replies sent =
+    let reply : IsAnswered IsReply words left left' text = record { command = run; bytes = bytes; read = read; text_is = replies } in
+    sent-ends Done result words left left' old new text (inr (inr reply)) (λ written. record { text = text; is = reply; written = written }) sent
+reply-ends Script result words left left' old new bytes text run read replies sent =
+    let refusal : IsAnswered IsRefusal words left left' text = record { command = run; bytes = bytes; read = read; text_is = replies } in
+    sent-ends Script result words left left' old new text (inr (inl refusal)) (λ written. record { text = text; is = refusal; written = written }) sent
+reply-ends Words result words left left' old new bytes text run read replies sent = absurd replies
+reply-ends ReadFault result words left left' old new bytes text run read replies sent = absurd replies
+reply-ends WriteFault result words left left' old new bytes text run read replies sent = absurd replies
+reply-ends Memory result words left left' old new bytes text run read replies sent = absurd replies

@@ -1,0 +1,5 @@
+use Rattle.excisedb.proofs.ReaderLaws.{one-word-no-command, other-verb-no-command, behind-verb}
+use Rattle.excisedb.proofs.reader.read_command.Goals as goal
+
+pub returns-in_default : goal.returns-in_default
+returns-in_default c = one-word-no-command c.args.words.now c.in_default.ensures

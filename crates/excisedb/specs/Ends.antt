@@ -1,0 +1,81 @@
+-- What a call of the program has read and written when it ends, by its status.
+use Rattle.std.specs.Prelude.{◌≡◌, ◌≢◌, ◌⊎◌, ℕ, ◌+◌, ◌≤◌, Option, List, [], ◌∷◌, length, take, codes}
+use Rattle.std.specs.Io.KnownBytes.{Appends, Consumes, IsAtEnd}
+use Rattle.xdb_plain.specs.Legal.{IsRight}
+use Rattle.xdb_plain.specs.Printed.{text_of}
+use Rattle.xdb_plain.specs.Runs.{IsRunOf}
+use Rattle.xdb_plain.specs.declared.note.Note.{Note}
+use Rattle.xdb_plain.specs.declared.script.Line.{Line}
+use Rattle.excisedb.specs.Grammar.{Spells, SpellsNothing, most_bytes}
+use Rattle.excisedb.specs.declared.status.Status.{Status}
+use Rattle.excisedb.specs.declared.status.Status.TheVariants.{Done, Words, Script, ReadFault, WriteFault, Memory}
+
+-- the one command
+abbrev pub run_words : List (List ℕ)
+run_words = codes "run" ∷ []
+
+abbrev pub usage_text : List ℕ
+usage_text = codes "usage: excisedb run | threads --workers N | gen --ops N --seed X\n"
+
+abbrev pub form_text : List ℕ
+form_text = codes "form\n"
+
+-- The bytes read: all that were left, or the first 1,048,577 of them.
+pub record AreRead (left left' : Option (List ℕ)) (bytes : List ℕ) : Type 0 where
+  pub consumed : Consumes left left' bytes
+  pub whole : IsAtEnd left' ⊎ (length bytes ≡ most_bytes + 1)
+
+-- The text is that of a history which is right and is a run of the script that the bytes spell.
+pub record IsReply (bytes text : List ℕ) : Type 0 where
+  pub lines : List Line
+  pub notes : List Note
+  pub spelled : Spells bytes lines
+  pub right : IsRight notes
+  pub run : IsRunOf lines notes
+  pub printed : text ≡ text_of notes
+
+-- the bytes spell no script, and the text says so
+pub record IsRefusal (bytes text : List ℕ) : Type 0 where
+  pub nothing : SpellsNothing bytes
+  pub told : text ≡ form_text
+
+-- Words other than the command: the source is left alone, and the text is the usage line.
+pub record IsUsage (words : List (List ℕ)) (left left' : Option (List ℕ)) (text : List ℕ) : Type 0 where
+  pub others : words ≢ run_words
+  pub alone : left' ≡ left
+  pub told : text ≡ usage_text
+
+-- The script was read, and a text belongs to it.
+pub record IsAnswered (P : List ℕ → List ℕ → Type 0) (words : List (List ℕ)) (left left' : Option (List ℕ)) (text : List ℕ) : Type 0 where
+  pub command : words ≡ run_words
+  pub bytes : List ℕ
+  pub read : AreRead left left' bytes
+  pub text_is : P bytes text
+
+-- the texts that a call may write
+abbrev pub MayWrite : List (List ℕ) → Option (List ℕ) → Option (List ℕ) → List ℕ → Type 0
+MayWrite words left left' text =
+    IsUsage words left left' text ⊎ (IsAnswered IsRefusal words left left' text ⊎ IsAnswered IsReply words left left' text)
+
+-- a text was written whole, which is of this kind
+pub record WritesWhole (kind : List ℕ → Type 0) (old new : Option (List ℕ)) : Type 0 where
+  pub text : List ℕ
+  pub is : kind text
+  pub written : Appends old new text
+
+-- a part from its front was written of a text of this kind
+pub record WritesPart (kind : List ℕ → Type 0) (old new : Option (List ℕ)) : Type 0 where
+  pub text : List ℕ
+  pub is : kind text
+  pub count : ℕ
+  pub within : count ≤ length text
+  pub written : Appends old new (take count text)
+
+-- By status: the words, what the source had left before and after, and what the sink had before and after.
+abbrev pub Ends : Status → List (List ℕ) → Option (List ℕ) → Option (List ℕ) → Option (List ℕ) → Option (List ℕ) → Type 0
+Ends Done words left left' old new = WritesWhole (IsAnswered IsReply words left left') old new
+Ends Words words left left' old new = WritesWhole (IsUsage words left left') old new
+Ends Script words left left' old new = WritesWhole (IsAnswered IsRefusal words left left') old new
+Ends ReadFault words left left' old new = (words ≡ run_words) × (new ≡ old)
+Ends WriteFault words left left' old new = WritesPart (MayWrite words left left') old new
+Ends Memory words left left' old new = (new ≡ old) ⊎ WritesPart (MayWrite words left left') old new

@@ -1,0 +1,31 @@
+//! The words after the program's name.
+ghost use Rattle.std.specs.Prelude.{◌≡◌, ◌↔◌, IsTrue, map, string_bytes, codes};
+ghost use Rattle.excisedb.specs.Ends.{run_words};
+
+use std::env;
+use std::rt::Env;
+
+/// The words that the program was called with, where they are text.
+pub fn given(rt: &(impl Env + AllocGlobal)) -> Option<Vec<String>> {
+    let mut words = Vec::new(rt.alloc());
+    for word in env::args(rt).ok()?.skip(1) {
+        words.push(word).ok()?;
+    }
+    Some(words)
+}
+
+/// Whether the words are the one command.
+pub fn are_run(words: &[String]) -> bool
+    ensures { IsTrue result ↔ (map string_bytes words.now ≡ run_words) }
+{
+    match words {
+        [word] => is_run(word.as_bytes()),
+        _ => false,
+    }
+}
+
+fn is_run(word: &[u8]) -> bool
+    ensures { IsTrue result ↔ (word.now ≡ codes "run") }
+{
+    word == b"run".as_slice()
+}
