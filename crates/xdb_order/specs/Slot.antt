@@ -18,7 +18,7 @@ story_of Holder = fresh_story
 story_of Hand = fresh_story
 story_of (Done out at) = fresh_story
 
--- the result was put into the slot, where it is at home until a look finds it
+-- the result was put into the slot (the law `what_was_put`)
 abbrev pub HasPut : {O : Type 0} → O → Role O → Type 0
 HasPut out role = (looks : ℕ) × (role ≡ Done out looks)
 
@@ -44,7 +44,7 @@ pub data Stands {I O : Type 0} (fits : I → O → Type 0) (given : I) : List �
 abbrev pub Keeps : {I O : Type 0} → (I → O → Type 0) → I → State (Option O) (Known I O) → Type 0
 Keeps fits given s = Stands fits given s.words s.homes s.views
 
--- A step of the desk's: the tray stands by its rule before it and after it, and what the hand knows stays.
+-- The desk's exchange, before which this was at home: what the hand knows stays.
 pub record DeskStep {I O : Type 0} (fits : I → O → Type 0) : Type 0 where
   pub given : I
   pub hand : Known I O
@@ -56,6 +56,19 @@ pub record DeskStep {I O : Type 0} (fits : I → O → Type 0) : Type 0 where
   pub homes_after : List (Home (Option O))
   pub stood : Stands fits given words (home ∷ []) (hand ∷ desk_knows given before ∷ [])
   pub stands : Stands fits given words_after homes_after (hand ∷ desk_knows given after ∷ [])
+
+-- The hand's exchange, after which this is at home: what the desk knows stays.
+pub record HandStep {I O : Type 0} (fits : I → O → Type 0) : Type 0 where
+  pub given : I
+  pub desk : Known I O
+  pub out : O
+  pub looks : ℕ
+  pub home : Home (Option O)
+  pub words : List ℕ
+  pub words_after : List ℕ
+  pub homes : List (Home (Option O))
+  pub stood : Stands fits given words homes (known given Hand ∷ desk ∷ [])
+  pub stands : Stands fits given words_after (home ∷ []) (known given (Done out looks) ∷ desk ∷ [])
 
 -- the seat is the desk's at this table
 pub record SitsAtDesk {I O : Type 0} (table : TableId) (given : I) (seat : Seat (Option O) (Known I O)) : Type 0 where

@@ -1,5 +1,5 @@
 -- What each step at a tray's table tells, of the seat before it, the word that it found and the seat after it.
-use Rattle.std.specs.Prelude.{◌≡◌, ◌≢◌, ℕ, ◌+◌, true, false, List, [], ◌∷◌, Option, Some, None}
+use Rattle.std.specs.Prelude.{◌≡◌, ◌≢◌, ℕ, true, false, ◌∷◌, Option, Some, None}
 use Rattle.atomic_table.specs.Table.{Me, rest}
 use Rattle.xdb_order.specs.Desk.{Looks}
 use Rattle.xdb_order.specs.Slot.{known, desk_knows, story_of}

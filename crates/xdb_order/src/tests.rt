@@ -1,4 +1,4 @@
-// What no clause says: that a result which was delivered is found, and that both ends cross threads.
+// What no clause says: that a result which the hand delivered is found by its desk. And that both ends cross threads.
 ghost use Rattle.std.specs.Prelude.{◌≡◌, ◌+◌, ◌*◌};
 
 use crate::{Desk, Hand, Work, order};
@@ -12,6 +12,7 @@ struct Doubling;
 
 impl Work for Doubling {
     type In = u32;
+
     type Out = u64;
 
     ghost fits = { λ given out. out ≡ 2 * given };
@@ -54,7 +55,10 @@ fn one_look_finds_it_in_any_schedule(rt: HostRuntime) -> Result<(), Fail> {
     let (mut desk, hand) = both_cross(&rt, desk, hand);
     let (early, ()) = thread::join(&rt, || desk.collect(), move || double(hand));
     let late = desk.collect();
-    assert!(rt; early.is_none() != late.is_none(), "one of both looks finds it");
+    assert!(rt;
+        early.is_none() != late.is_none(),
+        "one of both looks finds it"
+    );
     assert_eq!(rt; early.or(late), Some(10));
     Ok(())
 }
@@ -86,6 +90,7 @@ struct Raising<F> {
 
 impl<F: Drop + Send + Sync> Work for Raising<F> {
     type In = Parts<F>;
+
     type Out = Answer<F>;
 
     ghost fits = { λ given out. out.number ≡ given.number + 1 };
