@@ -16,7 +16,8 @@ fresh_story = story_at 0 false
 abbrev pub fresh_desk : {G : Type 0} → G → DeskView G
 fresh_desk given = record { given = given; story = fresh_story }
 
--- One look, which finds the result or not. Where it does, no look had found it before; where not, nothing was at home in the slot (the law `what_was_home`).
+-- One look, which finds the result or not: where it does, no look had found it before,
+-- and where it does not, nothing was at home in the slot (the law `what_was_home`).
 abbrev pub Looks : Story → Bool → Story → Type 0
 Looks before true after = (before.found ≡ false) × (after ≡ story_at (before.looks + 1) true)
 Looks before false after = after ≡ story_at (before.looks + 1) before.found

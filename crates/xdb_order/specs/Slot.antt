@@ -1,26 +1,12 @@
 -- How a tray stands: its word, its slot and what the seats know.
-use Rattle.std.specs.Prelude.{◌≡◌, ℕ, ◌<◌, true, false, List, [], ◌∷◌, Option, Some, None}
+use Rattle.std.specs.Prelude.{ℕ, ◌<◌, true, false, List, [], ◌∷◌, Option, Some, None}
 use mathlib.Core.Option.{Option as Home, some, none}
 use Rattle.atomic_table.specs.Table.{State}
-use Rattle.atomic_table.specs.Seated.{TableId}
-use Rattle.atomic_table.specs.declared.shared.Seat.{Seat}
-use Rattle.xdb_order.specs.Desk.{story_at, fresh_story}
+use Rattle.xdb_order.specs.Desk.{story_at}
 use Rattle.xdb_order.specs.declared.story.Story.{Story}
 use Rattle.xdb_order.specs.declared.known.Role.{Role}
 use Rattle.xdb_order.specs.declared.known.Role.TheVariants.{Maker, Holder, Hand, Done, Desk}
 use Rattle.xdb_order.specs.declared.known.Known.{Known}
-
--- the story of a desk's seat
-abbrev pub story_of : {O : Type 0} → Role O → Story
-story_of (Desk it) = it
-story_of Maker = fresh_story
-story_of Holder = fresh_story
-story_of Hand = fresh_story
-story_of (Done out at) = fresh_story
-
--- the result was put into the slot (the law `what_was_put`)
-abbrev pub HasPut : {O : Type 0} → O → Role O → Type 0
-HasPut out role = (looks : ℕ) × (role ≡ Done out looks)
 
 module _ {I O : Type 0} where
   abbrev pub known : I → Role O → Known I O
@@ -29,16 +15,21 @@ module _ {I O : Type 0} where
   abbrev pub desk_knows : I → Story → Known I O
   desk_knows given it = known given (Desk it)
 
--- The five ways to stand. The word is 1 where a result is at home in the slot, and else 0. The slot is out (`none`) with the maker, then the hand, and in the end the desk.
--- Every seat knows the given of the tray, what is at home fits it, and the first look after the hand's exchange finds it.
-pub data Stands {I O : Type 0} (fits : I → O → Type 0) (given : I) : List ℕ → List (Home (Option O)) → List (Known I O) → Type 0 where
+-- The five ways to stand. Every seat knows the given of the tray, and what is at home in the slot fits it.
+-- The word is 1 where a result is at home, and else 0. The slot is out (`none`) with the maker, then the hand, and in the end the desk.
+-- The first look after the hand's exchange finds the result.
+pub data Stands {I O : Type 0} (fits : I → O → Type 0) (given : I)
+    : List ℕ → List (Home (Option O)) → List (Known I O) → Type 0 where
   made : Stands fits given (0 ∷ []) (some None ∷ []) (known given Maker ∷ [])
   held : Stands fits given (0 ∷ []) (none ∷ []) (known given Holder ∷ [])
-  awaited : (looks : ℕ) → Stands fits given (0 ∷ []) (none ∷ []) (known given Hand ∷ desk_knows given (story_at looks false) ∷ [])
+  awaited : (looks : ℕ)
+      → Stands fits given (0 ∷ []) (none ∷ []) (known given Hand ∷ desk_knows given (story_at looks false) ∷ [])
   delivered : (out : O) (looks : ℕ) → fits given out
-      → Stands fits given (1 ∷ []) (some (Some out) ∷ []) (known given (Done out looks) ∷ desk_knows given (story_at looks false) ∷ [])
+      → Stands fits given (1 ∷ []) (some (Some out) ∷ [])
+      (known given (Done out looks) ∷ desk_knows given (story_at looks false) ∷ [])
   collected : (out : O) (at looks : ℕ) → at < looks
-      → Stands fits given (0 ∷ []) (none ∷ []) (known given (Done out at) ∷ desk_knows given (story_at looks true) ∷ [])
+      → Stands fits given (0 ∷ []) (none ∷ [])
+      (known given (Done out at) ∷ desk_knows given (story_at looks true) ∷ [])
 
 -- the rule of the table
 abbrev pub Keeps : {I O : Type 0} → (I → O → Type 0) → I → State (Option O) (Known I O) → Type 0
@@ -69,13 +60,3 @@ pub record HandStep {I O : Type 0} (fits : I → O → Type 0) : Type 0 where
   pub homes : List (Home (Option O))
   pub stood : Stands fits given words homes (known given Hand ∷ desk ∷ [])
   pub stands : Stands fits given words_after (home ∷ []) (known given (Done out looks) ∷ desk ∷ [])
-
--- the seat is the desk's at this table
-pub record SitsAtDesk {I O : Type 0} (table : TableId) (given : I) (seat : Seat (Option O) (Known I O)) : Type 0 where
-  pub here : seat.table_id ≡ table
-  pub knows : seat.me.0 ≡ desk_knows given (story_of seat.me.0.role)
-
--- the seat is the hand's at this table, and the slot is out with it, with nothing in it
-pub record SitsInHand {I O : Type 0} (table : TableId) (given : I) (seat : Seat (Option O) (Known I O)) : Type 0 where
-  pub here : seat.table_id ≡ table
-  pub holds : seat.me ≡ (known given Hand, (0, None) ∷ [])

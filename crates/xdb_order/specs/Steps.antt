@@ -2,7 +2,8 @@
 use Rattle.std.specs.Prelude.{◌≡◌, ◌≢◌, ℕ, true, false, ◌∷◌, Option, Some, None}
 use Rattle.atomic_table.specs.Table.{Me, rest}
 use Rattle.xdb_order.specs.Desk.{Looks}
-use Rattle.xdb_order.specs.Slot.{known, desk_knows, story_of}
+use Rattle.xdb_order.specs.Seats.{story_of}
+use Rattle.xdb_order.specs.Slot.{known, desk_knows}
 use Rattle.xdb_order.specs.declared.known.Role.TheVariants.{Holder, Done}
 use Rattle.xdb_order.specs.declared.known.Known.{Known}
 
@@ -17,7 +18,9 @@ module _ {I O : Type 0} where
 
   -- the hand has put in what was in the slot that was out with it
   abbrev pub put : Place I O → ℕ → Place I O → Type 0
-  put before found after = (out : O) × (looks : ℕ) × (before.1 ≡ (0, Some out) ∷ rest before.1) × (after.0 ≡ known before.0.given (Done out looks))
+  put before found after =
+      (out : O) × (looks : ℕ) × (before.1 ≡ (0, Some out) ∷ rest before.1)
+      × (after.0 ≡ known before.0.given (Done out looks))
 
   -- the desk still knows its given, and has the slot with a result that fits, or nothing was at home there
   abbrev pub looked : (I → O → Type 0) → Place I O → ℕ → Place I O → Type 0

@@ -15,13 +15,14 @@ pub struct Desk<W: Work> {
 impl<W: Work> Model for Desk<W> {
     ghost use Rattle.std.specs.Arc.{arc_value};
     ghost use Rattle.xdb_order.specs.Desk.{DeskView};
-    ghost use Rattle.xdb_order.specs.Slot.{SitsAtDesk, story_of};
+    ghost use Rattle.xdb_order.specs.Seats.{SitsAtDesk, seat_story};
 
     ghost Value = { DeskView W.In };
 
-    ghost view = { λ a. record { given = (arc_value a.tray).given; story = story_of a.seat.me.0.role } };
+    ghost view = { λ a. record { given = (arc_value a.tray).given; story = seat_story a.seat } };
 
-    ghost invariant = { λ a. let tray = arc_value a.tray in SitsAtDesk tray.table.shared.table_id tray.given a.seat };
+    ghost invariant = { λ a.
+        let tray = arc_value a.tray in SitsAtDesk tray.table.shared.table_id tray.given a.seat };
 }
 
 impl<W: Work> Desk<W> {

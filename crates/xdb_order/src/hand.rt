@@ -16,13 +16,14 @@ pub struct Hand<W: Work> {
 
 impl<W: Work> Model for Hand<W> {
     ghost use Rattle.std.specs.Arc.{arc_value};
-    ghost use Rattle.xdb_order.specs.Slot.{SitsInHand};
+    ghost use Rattle.xdb_order.specs.Seats.{SitsInHand};
 
     ghost Value = { W.In };
 
     ghost view = { λ a. (arc_value a.tray).given };
 
-    ghost invariant = { λ a. let tray = arc_value a.tray in SitsInHand tray.table.shared.table_id tray.given a.seat };
+    ghost invariant = { λ a.
+        let tray = arc_value a.tray in SitsInHand tray.table.shared.table_id tray.given a.seat };
 }
 
 impl<W: Work> Hand<W> {

@@ -8,8 +8,10 @@ use crate::work::Work;
 
 /// A look that finds nothing is made while nothing is at home in the slot, and one that finds the result while it is.
 pub fn what_was_home<W: Work>()
-    ensures nothing { (step : DeskStep W.fits) → Looks step.before false step.after → step.home ≡ none }
-    ensures result { (step : DeskStep W.fits) → Looks step.before true step.after → (out : W.Out) × (step.home ≡ some (Some out)) }
+    ensures nothing { (step : DeskStep W.fits)
+        → Looks step.before false step.after → step.home ≡ none }
+    ensures result { (step : DeskStep W.fits)
+        → Looks step.before true step.after → (out : W.Out) × (step.home ≡ some (Some out)) }
 {}
 
 /// What the hand has put into the slot is at home there after its exchange, and fits the given.

@@ -1,6 +1,7 @@
 // What no clause says: that a result which the hand delivered is found by its desk. And that both ends cross threads.
 ghost use Rattle.std.specs.Prelude.{◌≡◌, ◌+◌, ◌*◌};
 
+use crate::laws::{what_was_home, what_was_put};
 use crate::{Desk, Hand, Work, order};
 use std::alloc::AllocError;
 use std::marker::{Model, PhantomData};
@@ -69,6 +70,12 @@ fn an_unused_hand_delivers_nothing(rt: HostRuntime) -> Result<(), Fail> {
     drop(hand);
     assert_eq!(rt; desk.collect(), None);
     Ok(())
+}
+
+#[test]
+fn the_laws_hold_of_a_kind_of_work() {
+    what_was_home::<Doubling>();
+    what_was_put::<Doubling>();
 }
 
 // What is asked of a value of any type: its number, one higher.

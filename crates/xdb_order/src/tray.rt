@@ -1,7 +1,7 @@
 // What both ends share: the given, and a table whose one slot takes the result. All steps on the table stand here.
 ghost use Rattle.std.specs.Prelude.{◌≡◌, IfOk, IfSome, is_some};
 ghost use Rattle.xdb_order.specs.Desk.{Looks, fresh_story};
-ghost use Rattle.xdb_order.specs.Slot.{story_of, HasPut, SitsAtDesk, SitsInHand};
+ghost use Rattle.xdb_order.specs.Seats.{seat_story, HasPut, SitsAtDesk, SitsInHand};
 
 use crate::known::Known;
 use crate::rule::{Look, Part, Put, Take, Tied};
@@ -37,7 +37,7 @@ impl<W: Work> Tray<W> {
     ) -> Result<(Tray<W>, Place<W>, Place<W>), AllocError>
         ensures given { IfOk result (λ laid. laid.0.given ≡ given) }
         ensures desk { IfOk result (λ laid. SitsAtDesk laid.0.table.shared.table_id given laid.1) }
-        ensures fresh { IfOk result (λ laid. story_of laid.1.me.0.role ≡ fresh_story) }
+        ensures fresh { IfOk result (λ laid. seat_story laid.1 ≡ fresh_story) }
         ensures hand { IfOk result (λ laid. SitsInHand laid.0.table.shared.table_id given laid.2) }
     {
         let (table, mut seat) = Table::<_, _, _, Tied<W>, _>::vacant(alloc, &[EMPTY], 1, &given)?;
@@ -50,7 +50,7 @@ impl<W: Work> Tray<W> {
     pub(crate) fn put(&self, seat: &mut Place<W>, out: W::Out)
         requires hand { SitsInHand self.now.table.shared.table_id self.now.given seat.old }
         requires fits { W.fits self.now.given out }
-        ensures { HasPut out seat.new.me.0.role }
+        ensures { HasPut self.now.given out seat.new }
     {
         let shared = &self.table.shared;
         shared.exchange(seat, SLOT, Some(out));
@@ -62,7 +62,7 @@ impl<W: Work> Tray<W> {
         requires { SitsAtDesk self.now.table.shared.table_id self.now.given seat.old }
         ensures desk { SitsAtDesk self.now.table.shared.table_id self.now.given seat.new }
         ensures fits { IfSome result (W.fits self.now.given) }
-        ensures look { Looks (story_of seat.old.me.0.role) (is_some result) (story_of seat.new.me.0.role) }
+        ensures look { Looks (seat_story seat.old) (is_some result) (seat_story seat.new) }
     {
         let shared = &self.table.shared;
         let found = shared.compare_exchange::<Look<W>>(seat, WORD, FULL, EMPTY);
