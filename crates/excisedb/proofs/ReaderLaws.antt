@@ -235,9 +235,11 @@ no-put-of-value words key value cut bad c is spelled = elim (command-of c is) [
 pub a-put : (words first second key value : List ℕ) → words_in words ≡ first ∷ words_in second → key ≡ first → value ≡ second → is_text 1024 first ≡ true → is_text 65536 second ≡ true → ReadsBehind (codes "put") words (Some (cmd.Commit form.Put (op.Set key value ∷ [])))
 a-put words first second key value cut k v ktext vtext =
     let key_text : is_text 1024 key ≡ true = ap (is_text 1024) k ∙ ktext in
-    let value_text : is_text 65536 value ≡ true = ap (is_text 65536) v ∙ vtext in
-    ((key_text, value_text), ap (λ ws. codes "put" ∷ ws) (cut ∙ ap (λ ws. first ∷ ws) (text-one-word 65536 second vtext))
-    ∙ (λ i. codes "put" ∷ (sym k ∙ sym (text-itself 1024 key key_text)) i ∷ (sym v ∙ sym (text-itself 65536 value value_text)) i ∷ []))
+    let value_text : is_text 65536 value ≡ true = ap (is_text 65536) v ∙ vtext in (
+      (key_text, value_text),
+      ap (λ ws. codes "put" ∷ ws) (cut ∙ ap (λ ws. first ∷ ws) (text-one-word 65536 second vtext))
+          ∙ (λ i. codes "put" ∷ (sym k ∙ sym (text-itself 1024 key key_text)) i ∷ (sym v ∙ sym (text-itself 65536 value value_text)) i ∷ []),
+    )
 
 -- ---- whole lines
 

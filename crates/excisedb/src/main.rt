@@ -5,6 +5,8 @@ mod reader;
 mod session;
 mod status;
 mod store;
+#[cfg(test)]
+mod tests;
 mod text;
 mod top;
 mod words;

@@ -8,7 +8,7 @@ ghost use Rattle.excisedb.specs.Reading.{IsCut, IsClientWord, NoClientWord, Read
 
 use crate::text::is_plain;
 use std::alloc::{AllocError, Global};
-use xdb_key::{Key, Op, Ops, Val, MAX_KEY, MAX_VALUE};
+use xdb_key::{Key, MAX_KEY, MAX_VALUE, Op, Ops, Val};
 use xdb_plain::{By, Cmd, CommitForm, Line, Question, Script};
 
 /// The most bytes that a script has.

@@ -70,7 +70,9 @@ fn push_act(out: &mut Vec<u8>, act: &Act) -> Result<(), AllocError>
     match act {
         Act::Commit { form, ops } => push_commit(out, *form, ops.list()),
         Act::Ask {
-            question, parted, ..
+            question,
+            parted,
+            ..
         } => {
             if *parted {
                 push_word(out, b"begin")?;
@@ -201,11 +203,7 @@ fn hex_digit(digit: u8) -> u8
     requires { digit < 16 }
     ensures { result ≡ hex_digit digit }
 {
-    if digit < 10 {
-        b'0' + digit
-    } else {
-        87 + digit
-    }
+    if digit < 10 { b'0' + digit } else { 87 + digit }
 }
 
 fn push_reply(out: &mut Vec<u8>, reply: &Reply) -> Result<(), AllocError>

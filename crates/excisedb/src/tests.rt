@@ -1,0 +1,152 @@
+use crate::status::Status;
+use crate::top::top;
+use std::alloc::Global;
+use std::test::Fail;
+use xdb_device::{MemSink, MemSource};
+
+const USAGE: &[u8] = b"usage: excisedb run | threads --workers N | gen --ops N --seed X\n";
+
+/// A call with one word. The numbers say which pull and which push fail; 0 is none.
+fn call(
+    alloc: Global,
+    word: &str,
+    script: &[u8],
+    (pull, push): (u64, u64),
+    most: usize,
+) -> Result<(Status, MemSink), Fail> {
+    let words = vec![in alloc; String::from_str(alloc, word)?]?;
+    let mut source = MemSource::new(script.to_vec(alloc)?, vec![in alloc; pull]?);
+    let mut sink = MemSink::new(alloc, most.max(1), vec![in alloc; push]?);
+    let status = top(alloc, &words, &mut source, &mut sink);
+    Ok((status, sink))
+}
+
+#[test]
+fn replies(rt: HostRuntime) -> Result<(), Fail> {
+    let rows: [(&[u8], &[u8]); 5] = [
+        // the empty script
+        (b"", b""),
+        // a put and a get
+        (
+            b"c1 put a 1\nc1 get a\n",
+            b"c1 put a 1 -> done\nc1 get a -> value 1\n",
+        ),
+        // a get before the put, another client, and a last line without its line feed
+        (
+            b"c1 get a\nc2 put a x/1\nc1 get a",
+            b"c1 get a -> none\nc2 put a x/1 -> done\nc1 get a -> value x/1\n",
+        ),
+        // the newest put of a key wins, and other keys are left alone
+        (
+            b"c1 put a 1\nc16 put a 2\nc9 put b 3\nc1 get a\nc1 get b\n",
+            b"c1 put a 1 -> done\nc16 put a 2 -> done\nc9 put b 3 -> done\nc1 get a -> value 2\nc1 get b -> value 3\n",
+        ),
+        // words that stand for other things elsewhere
+        (
+            b"c10 put put get\nc10 get put\n",
+            b"c10 put put get -> done\nc10 get put -> value get\n",
+        ),
+    ];
+    for (script, text) in rows {
+        let (status, sink) = call(rt.alloc(), "run", script, (0, 0), 7)?;
+        assert!(rt; status == Status::Done);
+        assert!(rt; sink.bytes() == text);
+    }
+    Ok(())
+}
+
+#[test]
+fn malformed_scripts(rt: HostRuntime) -> Result<(), Fail> {
+    let scripts: [&[u8]; 20] = [
+        b"c1 del a\n",
+        b"\n",
+        b"c1 get a\n\nc1 get a\n",
+        b"# n\n",
+        b"c0 get a\n",
+        b"c17 get a\n",
+        b"c01 get a\n",
+        b"c get a\n",
+        b"C1 get a\n",
+        b"c1\n",
+        b"c1 get\n",
+        b"c1 get \n",
+        b"c1 get a b\n",
+        b"c1 put a\n",
+        b"c1 put a b c\n",
+        b"c1 put a \n",
+        b"c1  get a\n",
+        b" c1 get a\n",
+        b"c1 get a%20\n",
+        b"c1 get a\r\n",
+    ];
+    for script in scripts {
+        let (status, sink) = call(rt.alloc(), "run", script, (0, 0), 100)?;
+        assert!(rt; status == Status::Script);
+        assert!(rt; sink.bytes() == b"form\n".as_slice());
+    }
+    Ok(())
+}
+
+#[test]
+fn limits(rt: HostRuntime) -> Result<(), Fail> {
+    for (key, value, status) in [
+        (1024, 65_536, Status::Done),
+        (1025, 1, Status::Script),
+        (1, 65_537, Status::Script),
+    ] {
+        let mut script = b"c1 put ".to_vec(rt.alloc())?;
+        script.extend_from_slice(&vec![in rt.alloc(); b'k'; key]?)?;
+        script.push(b' ')?;
+        script.extend_from_slice(&vec![in rt.alloc(); b'v'; value]?)?;
+        let (found, _sink) = call(rt.alloc(), "run", &script, (0, 0), 100_000)?;
+        assert!(rt; found == status);
+    }
+    let long = vec![in rt.alloc(); b'\n'; 1_048_577]?;
+    let (status, sink) = call(rt.alloc(), "run", &long, (0, 0), 100)?;
+    assert!(rt; status == Status::Script);
+    assert!(rt; sink.bytes() == b"form\n".as_slice());
+    Ok(())
+}
+
+#[test]
+fn wrong_words(rt: HostRuntime) -> Result<(), Fail> {
+    for word in ["walk", "threads", "", "run ", "--", "help"] {
+        let (status, sink) = call(rt.alloc(), word, b"c1 get a\n", (1, 0), 10)?;
+        assert!(rt; status == Status::Words);
+        assert!(rt; sink.bytes() == USAGE);
+    }
+    Ok(())
+}
+
+#[test]
+fn faults_of_the_outside(rt: HostRuntime) -> Result<(), Fail> {
+    let script = b"c1 put a 1\nc1 get a\n";
+    let rows: [((u64, u64), Status, &[u8]); 4] = [
+        // the first pull fails, and one in mid-stream
+        ((1, 0), Status::ReadFault, b""),
+        ((2, 0), Status::ReadFault, b""),
+        // the first push fails, and the second
+        ((0, 1), Status::WriteFault, b""),
+        ((0, 2), Status::WriteFault, b"c1 pu"),
+    ];
+    for (fails, status, text) in rows {
+        let (found, sink) = call(rt.alloc(), "run", script, fails, 5)?;
+        assert!(rt; found == status);
+        assert!(rt; sink.bytes() == text);
+    }
+    Ok(())
+}
+
+#[test]
+fn codes(rt: HostRuntime) {
+    for (status, code) in [
+        (Status::Done, 0),
+        (Status::Words, 1),
+        (Status::Script, 2),
+        (Status::ReadFault, 3),
+        (Status::WriteFault, 4),
+        (Status::Memory, 5),
+    ] {
+        assert!(rt; status.code() == code);
+    }
+}

@@ -1,0 +1,4 @@
+pub mod Desk
+pub mod Slot
+pub mod Seats
+pub mod Steps
