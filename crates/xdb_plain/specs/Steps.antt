@@ -25,8 +25,8 @@ abbrev pub may_reply : Plain → Act → List Reply
 may_reply p (Commit form ops) = Memory ∷ Done ∷ []
 may_reply p (Ask ask question parted) =
     if ask == 0 then Memory ∷ [] else (
-      if ask == p.asked + 1 then Asked ask ∷ [] else (
-      if is_some (found_question ask p.questions) then Answered Absent ∷ Memory ∷ [] else []))
+    if ask == p.asked + 1 then Asked ask ∷ [] else (
+    if is_some (found_question ask p.questions) then Answered Absent ∷ Memory ∷ [] else []))
 
 -- two replies are of one kind, and have the same numbers and names
 abbrev pub same_reply : Reply → Reply → Bool

@@ -42,7 +42,10 @@ impl Question {
 #[derive(Debug, Drop)]
 pub enum Act {
     /// Operations take effect, in their order.
-    Commit { form: CommitForm, ops: Ops },
+    Commit {
+        form: CommitForm,
+        ops: Ops,
+    },
     /// A question is asked, or one that was asked without being parted gets its answer. A question
     /// that was refused has the number 0.
     Ask {

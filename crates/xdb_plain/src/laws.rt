@@ -15,12 +15,10 @@ pub fn history_goes_on()
         → Right p notes → MayStand (after_all p notes) note → AnswersRight (after_all p notes) note.act note.reply
         → Right p (notes ++ note ∷ []) }
     ensures legal { (p : Plain) (notes : List Note) → Right p notes → Legal p notes }
-{
-}
+{}
 
 /// A run goes on by one line and its block.
 pub fn run_goes_on()
     ensures { (lines : List Line) (notes : List Note) (line : Line) (block : List Note)
         → IsRunOf lines notes → IsBlock line.by line.cmd block → IsRunOf (lines ++ line ∷ []) (notes ++ block) }
-{
-}
+{}
