@@ -29,3 +29,7 @@ refusal ops op = refusal_at (length ops) (batch_len ops) op
 abbrev pub first_refusal : ℕ → ℕ → List Op → Option BatchNo
 first_refusal count len [] = None
 first_refusal count len (op ∷ ops) = option_or (refusal_at count len op) (first_refusal (count + 1) (len + op_len op) ops)
+
+-- the first refusal of a whole batch
+abbrev pub refusal_of : List Op → Option BatchNo
+refusal_of ops = first_refusal 0 (batch_len []) ops

@@ -2,7 +2,7 @@
 ghost use Rattle.std.specs.Prelude.{◌≡◌, ◌+◌, ◌<◌, ◌≤◌, Err, IfOk, OnOk, IfSome, IfNone, IsOk};
 ghost use Rattle.xdb_key.specs.Ops.{op_len};
 ghost use Rattle.xdb_key.specs.declared.TheConstants.{MAX_VALUE};
-ghost use Rattle.xdb_batch.specs.Adding.{value_len, refusal_at, first_refusal};
+ghost use Rattle.xdb_batch.specs.Adding.{value_len, refusal_at, refusal_of};
 ghost use Rattle.xdb_batch.specs.Spelling.{IsOp, IsKept};
 
 use crate::{BatchNo, HEADER, MAX_BATCH, MAX_OPS};
@@ -11,8 +11,8 @@ use xdb_key::{MAX_VALUE, Op, string_len};
 /// How many bytes a batch of the operations takes.
 pub fn total_len(ops: &[Op]) -> Result<usize, BatchNo>
     ensures kept { IfOk result (λ len. IsKept ops.now len) }
-    ensures refused { IfSome (first_refusal 0 HEADER ops.now) (λ no. result ≡ Err no) }
-    ensures succeeds { IfNone (first_refusal 0 HEADER ops.now) (IsOk result) }
+    ensures refused { IfSome (refusal_of ops.now) (λ no. result ≡ Err no) }
+    ensures succeeds { IfNone (refusal_of ops.now) (IsOk result) }
 {
     let mut len = HEADER;
     for (count, op) in ops.iter().enumerate() {

@@ -1,6 +1,6 @@
 ghost use Rattle.std.specs.Prelude.{◌≡◌, ◌+◌, ◌≤◌, ◌^◌, ℕ, List, [], ◌∷◌, ◌++◌, length, Ok, IfOk, OnOk, OnErr, IfSome, IfNone, IsOk, IsOkUnless};
 ghost use Rattle.xdb_key.specs.declared.op.Op.{Op};
-ghost use Rattle.xdb_batch.specs.Adding.{refusal, first_refusal};
+ghost use Rattle.xdb_batch.specs.Adding.{refusal, refusal_of};
 ghost use Rattle.xdb_batch.specs.Reading.{Answers, batch_at};
 ghost use Rattle.xdb_batch.specs.Spelling.{AreOps, IsBatch, batch_bytes};
 
@@ -46,8 +46,8 @@ impl Batch {
     /// The batch of these operations, without memory.
     pub fn from_ops(ops: Vec<Op>) -> Result<Self, BatchNo>
         ensures made { IfOk result (λ batch. batch ≡ ops.items) }
-        ensures refused { IfSome (first_refusal 0 HEADER ops.items) (λ no. result ≡ Err no) }
-        ensures succeeds { IfNone (first_refusal 0 HEADER ops.items) (IsOk result) }
+        ensures refused { IfSome (refusal_of ops.items) (λ no. result ≡ Err no) }
+        ensures succeeds { IfNone (refusal_of ops.items) (IsOk result) }
     {
         let len = total_len(&ops)?;
         Ok(Batch { ops, len })

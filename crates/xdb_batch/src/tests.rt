@@ -9,55 +9,63 @@ const SET: [u8; 17] = [1, 0, 0, 0, 0, 0, 0, 0, 1, 0, 0, 0, 1, 1, b'a', 1, b'1'];
 /// Deletes the keys from a on and below c, numbered 7.
 const DEL_SPAN: [u8; 17] = [7, 0, 0, 0, 0, 0, 0, 0, 1, 0, 0, 0, 15, 1, b'a', 1, b'c'];
 
-fn key(alloc: Global, text: &[u8]) -> Result<Key, Fail> {
-    Ok(Key::new(text.to_vec(alloc)?)?)
+fn key(alloc: Global, text: &str) -> Result<Key, Fail> {
+    Ok(Key::new(text.as_bytes().to_vec(alloc)?)?)
 }
 
-fn range(alloc: Global, lo: &[u8], hi: &[u8]) -> Result<KeyRange, Fail> {
-    let lo = Bound::new(lo.to_vec(alloc)?)?;
-    let hi = Bound::new(hi.to_vec(alloc)?)?;
+fn range(alloc: Global, lo: &str, hi: &str) -> Result<KeyRange, Fail> {
+    let lo = Bound::new(lo.as_bytes().to_vec(alloc)?)?;
+    let hi = Bound::new(hi.as_bytes().to_vec(alloc)?)?;
     Ok(KeyRange::new(lo, hi)?)
 }
 
-/// Why the bytes are refused; without a refusal they are what the batch that was read is written as.
+fn value(alloc: Global, len: usize) -> Result<Vec<u8>, Fail> {
+    Ok(vec![in alloc; b'v'; len]?)
+}
+
+/// The batch as bytes, where its numbers are in range.
+fn written(batch: &Batch, first: u64) -> Result<Vec<u8>, Fail> {
+    let count = batch.ops().len();
+    if count == 0 || first == 0 || first > (1 << 56) - count as u64 {
+        return Err(Fail::from("the numbers are out of range"));
+    }
+    Ok(batch.bytes(first)?)
+}
+
+/// Why the bytes are refused. Bytes that aren't are just what the batch is written as.
 fn defect(alloc: Global, bytes: &[u8]) -> Result<Option<BatchBad>, Fail> {
     match Batch::from_bytes(alloc, bytes) {
         Err(bad) => Ok(Some(bad)),
-        Ok((first, batch)) => {
-            if batch.bytes(first)?.as_slice() == bytes {
-                Ok(None)
-            } else {
-                Err(Fail::from("the bytes differ"))
-            }
-        }
+        Ok((first, batch)) if batch.bytes(first)?.as_slice() == bytes => Ok(None),
+        Ok(_) => Err(Fail::from("the bytes differ")),
     }
 }
 
-/// A batch of these first and count, each in the bytes that they are written in, and this rest.
-fn spelled(alloc: Global, first: u64, count: u32, rest: &[u8]) -> Result<Vec<u8>, Fail> {
+/// Why a batch of this first number, count and rest is refused.
+fn defect_of(alloc: Global, first: u64, count: u32, rest: &[u8]) -> Result<Option<BatchBad>, Fail> {
     let mut bytes = Vec::new(alloc);
     bytes.extend_from_slice(&first.to_le_bytes())?;
     bytes.extend_from_slice(&count.to_le_bytes())?;
     bytes.extend_from_slice(rest)?;
-    Ok(bytes)
+    defect(alloc, &bytes)
 }
 
 #[test]
 fn one_set_and_one_span(rt: HostRuntime) -> Result<(), Fail> {
     let alloc = rt.alloc();
     let mut set = Batch::new(alloc);
-    set.set(key(alloc, b"a")?, b"1".to_vec(alloc)?)?;
-    assert_eq!(rt; set.bytes(1)?.as_slice(), SET.as_slice());
+    set.set(key(alloc, "a")?, b"1".to_vec(alloc)?)?;
+    assert_eq!(rt; written(&set, 1)?.as_slice(), SET.as_slice());
     let (first, read) = Batch::from_bytes(alloc, &SET)?;
     assert_eq!(rt; first, 1);
-    assert!(rt; read.ops().len() == 1 && read.ops()[0].same(&set.ops()[0]));
+    assert_eq!(rt; written(&read, 1)?.as_slice(), SET.as_slice());
 
     let mut span = Batch::new(alloc);
-    span.del_span(range(alloc, b"a", b"c")?)?;
-    assert_eq!(rt; span.bytes(7)?.as_slice(), DEL_SPAN.as_slice());
+    span.del_span(range(alloc, "a", "c")?)?;
+    assert_eq!(rt; written(&span, 7)?.as_slice(), DEL_SPAN.as_slice());
     let (first, read) = Batch::from_bytes(alloc, &DEL_SPAN)?;
     assert_eq!(rt; first, 7);
-    assert!(rt; read.ops().len() == 1 && read.ops()[0].same(&span.ops()[0]));
+    assert_eq!(rt; written(&read, 7)?.as_slice(), DEL_SPAN.as_slice());
     Ok(())
 }
 
@@ -65,54 +73,42 @@ fn one_set_and_one_span(rt: HostRuntime) -> Result<(), Fail> {
 fn three_operations_in_order(rt: HostRuntime) -> Result<(), Fail> {
     let alloc = rt.alloc();
     let mut batch = Batch::new(alloc);
-    batch.set(key(alloc, b"b")?, Vec::new(alloc))?;
-    batch.del_span(range(alloc, b"a", b"c")?)?;
-    batch.del(key(alloc, b"a")?)?;
-    let bytes = batch.bytes((1 << 56) - 3)?;
-    assert_eq!(rt;
-        bytes.as_slice(),
-        [
-            0xfd, 0xff, 0xff, 0xff, 0xff, 0xff, 0xff, 0, 3, 0, 0, 0, 1, 1, b'b', 0, 15, 1, b'a', 1,
-            b'c', 0, 1, b'a',
-        ]
-        .as_slice()
-    );
+    batch.set(key(alloc, "b")?, Vec::new(alloc))?;
+    batch.del_span(range(alloc, "a", "c")?)?;
+    batch.del(key(alloc, "a")?)?;
+    let batch = Batch::from_ops(batch.into_ops().into_list())?;
+    let bytes = written(&batch, (1 << 56) - 3)?;
+    let wanted = b"\xfd\xff\xff\xff\xff\xff\xff\0\x03\0\0\0\x01\x01b\0\x0f\x01a\x01c\0\x01a";
+    assert_eq!(rt; bytes.as_slice(), wanted.as_slice());
     assert_eq!(rt; defect(alloc, &bytes)?, None);
-    let ops = batch.into_ops().into_list();
-    let again = Batch::from_ops(ops)?;
-    assert_eq!(rt; again.bytes((1 << 56) - 3)?.as_slice(), bytes.as_slice());
     Ok(())
 }
 
 #[test]
-fn each_proper_prefix_is_short(rt: HostRuntime) -> Result<(), Fail> {
+fn each_proper_prefix_is_refused(rt: HostRuntime) -> Result<(), Fail> {
     let alloc = rt.alloc();
     for vector in [SET, DEL_SPAN] {
         for at in 0..17 {
-            let whole_header = at == 12;
-            let bad = if whole_header {
-                BatchBad::BadCount {
+            let wanted = match at {
+                12 => BatchBad::BadCount {
                     stated: 1,
                     found: 0,
-                }
-            } else {
-                BatchBad::Short { at }
+                },
+                _ => BatchBad::Short { at },
             };
-            assert_eq!(rt; defect(alloc, &vector[..at])?, Some(bad));
+            assert_eq!(rt; defect(alloc, &vector[..at])?, Some(wanted));
         }
     }
     Ok(())
 }
 
 #[test]
-fn each_defect_is_named(rt: HostRuntime) -> Result<(), Fail> {
+fn defects_of_numbers_and_counts(rt: HostRuntime) -> Result<(), Fail> {
     let alloc = rt.alloc();
-    let huge = [0xff; 9];
-    let rows: [(u64, u32, &[u8], BatchBad); 22] = [
+    let rows: [(u64, u32, BatchBad); 8] = [
         (
             1,
             2,
-            &SET[12..],
             BatchBad::BadCount {
                 stated: 2,
                 found: 1,
@@ -121,113 +117,78 @@ fn each_defect_is_named(rt: HostRuntime) -> Result<(), Fail> {
         (
             1,
             0,
-            &[],
             BatchBad::BadCount {
                 stated: 0,
                 found: 0,
             },
         ),
-        (
-            1,
-            0,
-            &SET[12..],
-            BatchBad::BadCount {
-                stated: 0,
-                found: 0,
-            },
-        ),
-        (
-            1,
-            4096,
-            &[],
-            BatchBad::BadCount {
-                stated: 4096,
-                found: 0,
-            },
-        ),
-        (1, 4097, &SET[12..], BatchBad::TooMany),
-        (0, 4097, &SET[12..], BatchBad::TooMany),
-        (0, 1, &SET[12..], BatchBad::BadNumbers),
-        (0, 0, &[], BatchBad::BadNumbers),
-        (1 << 56, 1, &SET[12..], BatchBad::BadNumbers),
-        (u64::MAX, 1, &SET[12..], BatchBad::BadNumbers),
-        (
-            1,
-            1,
-            &[2, 1, b'a', 1, b'1'],
-            BatchBad::BadKind { byte: 2, at: 12 },
-        ),
-        (
-            1,
-            1,
-            &[1, 1, b'a', 1, b'1', 0],
-            BatchBad::Trailing { at: 17 },
-        ),
-        (
-            1,
-            1,
-            &[1, 0x81, 0, b'a', 1, b'1'],
-            BatchBad::BadVarint { at: 13 },
-        ),
-        (
-            1,
-            1,
-            &[1, 1, b'a', 0x81, 0, b'1'],
-            BatchBad::BadVarint { at: 15 },
-        ),
-        (1, 1, &huge, BatchBad::BadKind { byte: 0xff, at: 12 }),
-        (
-            1,
-            1,
-            &[0, 0xff, 0xff, 0xff, 0xff, 0xff, 0xff, 0xff, 0xff, 0xff, 0],
-            BatchBad::BadVarint { at: 13 },
-        ),
-        (
-            1,
-            1,
-            &[0, 0xff, 0xff, 0xff, 0xff, 0xff, 0xff, 0xff, 0xff, 0x7f],
-            BatchBad::BadKey { at: 12 },
-        ),
-        (1, 1, &[0, 0], BatchBad::BadKey { at: 12 }),
-        (1, 1, &[0, 0x81, 8], BatchBad::BadKey { at: 12 }),
-        (
-            1,
-            1,
-            &[1, 1, b'a', 0x81, 0x80, 4],
-            BatchBad::BadKey { at: 12 },
-        ),
-        (1, 1, &[15, 1, b'c', 1, b'c'], BatchBad::BadKey { at: 12 }),
-        (
-            1,
-            2,
-            &[0, 1, b'a', 15, 1, b'c', 1, b'a'],
-            BatchBad::BadKey { at: 15 },
-        ),
+        (1, 4097, BatchBad::TooMany),
+        (0, 4097, BatchBad::TooMany),
+        (0, 1, BatchBad::BadNumbers),
+        (0, 0, BatchBad::BadNumbers),
+        (1 << 56, 1, BatchBad::BadNumbers),
+        (u64::MAX, 1, BatchBad::BadNumbers),
     ];
-    for (first, count, rest, bad) in rows {
-        let bytes = spelled(alloc, first, count, rest)?;
-        assert_eq!(rt; defect(alloc, &bytes)?, Some(bad));
+    for (first, count, wanted) in rows {
+        assert_eq!(rt;
+            defect_of(alloc, first, count, b"\x01\x01a\x011")?,
+            Some(wanted)
+        );
     }
-    let long = vec![in alloc; 0u8; MAX_BATCH + 1]?;
-    assert_eq!(rt; defect(alloc, &long)?, Some(BatchBad::TooLong));
+    Ok(())
+}
+
+#[test]
+fn defects_of_operations(rt: HostRuntime) -> Result<(), Fail> {
+    let alloc = rt.alloc();
+    let rows: [(&[u8], BatchBad); 11] = [
+        (b"\x02\x01a\x011", BatchBad::BadKind { byte: 2, at: 12 }),
+        (b"\x01\x01a\x011\0", BatchBad::Trailing { at: 17 }),
+        (b"\x01\x81\0a\x011", BatchBad::BadVarint { at: 13 }),
+        (b"\x01\x01a\x81\x001", BatchBad::BadVarint { at: 15 }),
+        (
+            b"\0\xff\xff\xff\xff\xff\xff\xff\xff\xff\0",
+            BatchBad::BadVarint { at: 13 },
+        ),
+        (
+            b"\0\xff\xff\xff\xff\xff\xff\xff\xff\x7f",
+            BatchBad::BadKey { at: 12 },
+        ),
+        (b"\0\0", BatchBad::BadKey { at: 12 }),
+        (b"\0\x81\x08", BatchBad::BadKey { at: 12 }),
+        (b"\x01\x01a\x81\x80\x04", BatchBad::BadKey { at: 12 }),
+        (b"\x0f\x01c\x01c", BatchBad::BadKey { at: 12 }),
+        (b"\x0f\x01c\x02a", BatchBad::Short { at: 17 }),
+    ];
+    for (rest, wanted) in rows {
+        assert_eq!(rt; defect_of(alloc, 1, 1, rest)?, Some(wanted));
+    }
     assert_eq!(rt;
-        defect(alloc, &long[..MAX_BATCH])?,
-        Some(BatchBad::BadNumbers)
+        defect_of(alloc, 1, 2, b"\0\x01a\x0f\x01c\x01a")?,
+        Some(BatchBad::BadKey { at: 15 })
     );
+    Ok(())
+}
+
+#[test]
+fn an_input_of_one_byte_too_many(rt: HostRuntime) -> Result<(), Fail> {
+    let alloc = rt.alloc();
+    let long = value(alloc, 1_048_577)?;
+    assert_eq!(rt; defect(alloc, &long)?, Some(BatchBad::TooLong));
     Ok(())
 }
 
 #[test]
 fn a_changed_byte_is_refused_or_another_batch(rt: HostRuntime) -> Result<(), Fail> {
     let alloc = rt.alloc();
-    let mut read = 0;
+    let mut read = 0u32;
     for vector in [SET, DEL_SPAN] {
         for at in 0..17 {
             for byte in 0..=255 {
                 let mut bytes = vector;
                 bytes[at] = byte;
                 if defect(alloc, &bytes)?.is_none() {
-                    read += 1;
+                    read = read.wrapping_add(1);
                 }
             }
         }
@@ -243,35 +204,41 @@ fn a_changed_byte_is_refused_or_another_batch(rt: HostRuntime) -> Result<(), Fai
 }
 
 #[test]
-fn limits_of_a_batch(rt: HostRuntime) -> Result<(), Fail> {
+fn values_and_lengths_have_limits(rt: HostRuntime) -> Result<(), Fail> {
     let alloc = rt.alloc();
     let mut batch = Batch::new(alloc);
-    let long = vec![in alloc; b'v'; 65_537]?;
     assert_eq!(rt;
-        batch.set(key(alloc, b"a")?, long),
+        batch.set(key(alloc, "a")?, value(alloc, 65_537)?),
         Err(BatchNo::ValueTooLong { len: 65_537 })
     );
     for _ in 0..15 {
-        batch.set(key(alloc, b"a")?, vec![in alloc; b'v'; 65_536]?)?;
+        batch.set(key(alloc, "a")?, value(alloc, 65_536)?)?;
     }
     // There are 12 bytes and 15 times 65,542, so 65,434 are left, of which 6 aren't the value's.
-    let over = vec![in alloc; b'v'; 65_429]?;
-    assert_eq!(rt; batch.set(key(alloc, b"a")?, over), Err(BatchNo::TooLong));
-    batch.set(key(alloc, b"a")?, vec![in alloc; b'v'; 65_428]?)?;
-    let bytes = batch.bytes(1)?;
+    assert_eq!(rt;
+        batch.set(key(alloc, "a")?, value(alloc, 65_429)?),
+        Err(BatchNo::TooLong)
+    );
+    batch.set(key(alloc, "a")?, value(alloc, 65_428)?)?;
+    assert_eq!(rt; batch.del(key(alloc, "a")?), Err(BatchNo::TooLong));
+    let bytes = written(&batch, 1)?;
     assert_eq!(rt; bytes.len(), MAX_BATCH);
     assert_eq!(rt; defect(alloc, &bytes)?, None);
-    assert_eq!(rt; batch.del(key(alloc, b"a")?), Err(BatchNo::TooLong));
+    Ok(())
+}
 
-    let mut many = Batch::new(alloc);
+#[test]
+fn counts_have_a_limit(rt: HostRuntime) -> Result<(), Fail> {
+    let alloc = rt.alloc();
+    let mut batch = Batch::new(alloc);
     for _ in 0..MAX_OPS {
-        many.del(key(alloc, b"a")?)?;
+        batch.del(key(alloc, "a")?)?;
     }
-    assert_eq!(rt; many.del(key(alloc, b"a")?), Err(BatchNo::TooMany));
-    assert_eq!(rt; defect(alloc, &many.bytes(1)?)?, None);
-    let mut ops = many.into_ops().into_list();
+    assert_eq!(rt; batch.del(key(alloc, "a")?), Err(BatchNo::TooMany));
+    assert_eq!(rt; defect(alloc, &written(&batch, 1)?)?, None);
+    let mut ops = batch.into_ops().into_list();
     ops.push(Op::Del {
-        key: key(alloc, b"b")?,
+        key: key(alloc, "b")?,
     })?;
     assert_eq!(rt; Batch::from_ops(ops).err(), Some(BatchNo::TooMany));
     Ok(())

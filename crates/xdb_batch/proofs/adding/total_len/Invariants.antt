@@ -1,5 +1,5 @@
 use Rattle.std.proofs.Common.{◌≡◌, take, drop}
-use Rattle.xdb_batch.specs.Adding.{first_refusal}
+use Rattle.xdb_batch.specs.Adding.{first_refusal, refusal_of}
 use Rattle.xdb_batch.specs.Spelling.{IsKept}
 use Rattle.xdb_batch.proofs.adding.total_len.Given as goal
 
@@ -7,5 +7,5 @@ use Rattle.xdb_batch.proofs.adding.total_len.Given as goal
 abbrev pub invariant-loop-count : goal.invariant-loop-count
 invariant-loop-count l = record {
   kept : IsKept (take l.count l.ops) l.len;
-  others : first_refusal l.count l.len (drop l.count l.ops) ≡ first_refusal 0 12 l.ops;
+  others : first_refusal l.count l.len (drop l.count l.ops) ≡ refusal_of l.ops;
 }
