@@ -1,8 +1,8 @@
 -- The two laws: what is read is spelled so, and what is spelled so is read.
-use Rattle.std.proofs.Common.{◌≡◌, ℕ, zero, suc, ◌+◌, ◌-◌, ◌*◌, ◌^◌, ◌<◌, ◌≤◌, Bool, true, false, ◌||◌, cond, eqb, ltb, List, [], ◌∷◌, ◌++◌, length, take, drop, append_assoc, subst, Result, Ok, Err, refl, sym, ap, ◌∙◌, arith, inl, inr}
+use Rattle.std.proofs.Common.{◌≡◌, ℕ, zero, suc, ◌+◌, ◌-◌, ◌^◌, ◌≤◌, Bool, true, false, ◌||◌, cond, eqb, ltb, List, [], ◌∷◌, ◌++◌, length, take, drop, append_assoc, subst, Ok, Err, refl, sym, ap, ◌∙◌, arith}
 use Rattle.std.specs.List.{flat_map, AllByRecursion}
-use Rattle.std.proofs.lemmas.Bool.{lt-ltb, le-ltb, ltb-false, eqb-true, eqb-false, eq-eqb, ne_eqb, or_parts, or_from}
-use Rattle.std.proofs.lemmas.List.{append-nil, nil_from_length, length-append, length-drop, drop-drop, take-append-drop}
+use Rattle.std.proofs.lemmas.Bool.{le-ltb, ltb-false, eqb-true, eqb-false, ne_eqb, or_parts, or_from}
+use Rattle.std.proofs.lemmas.List.{append-nil, nil_from_length, length-drop, drop-drop, take-append-drop}
 use Rattle.std.proofs.lemmas.List.Concat.{flat_map-cons}
 use Rattle.byteorder.specs.Endian.{little_bytes, little_number}
 use Rattle.byteorder.specs.Numbers.{little_number-reads_back}
@@ -12,8 +12,7 @@ use Rattle.xdb_key.specs.Reading.{◌>>=◌, AreBytes}
 use Rattle.xdb_key.specs.declared.op.Op.{Op}
 use Rattle.xdb_key.specs.declared.op.Op.TheVariants.{Set, Del, DelSpan}
 use Rattle.xdb_batch.specs.Reading.{op_at, ops_at, header_at, batch_at}
-use Rattle.xdb_batch.specs.Spelling.{op_bytes, batch_bytes, IsOp, AreOps, IsBatch, IsKept}
-use Rattle.xdb_batch.specs.declared.TheConstants.{MAX_OPS, MAX_BATCH}
+use Rattle.xdb_batch.specs.Spelling.{op_bytes, batch_bytes, IsOp, IsBatch, IsKept}
 use Rattle.xdb_batch.specs.declared.error.BatchBad.{BatchBad}
 use Rattle.xdb_batch.specs.declared.error.BatchBad.TheVariants.{TooLong, Short, TooMany, BadNumbers, BadCount, Trailing}
 use Rattle.xdb_batch.proofs.Lengths.{length-batch_bytes}
@@ -60,9 +59,9 @@ ops_again stated end (op ∷ ops) rest fits =
 -- ---- the first number and the count
 
 record IsHeader (bytes : List ℕ) (first count : ℕ) : Type 0 where
-  short : length bytes ≤ MAX_BATCH
+  short : length bytes ≤ 1048576
   long : 12 ≤ length bytes
-  few : count ≤ MAX_OPS
+  few : count ≤ 4096
   from : 1 ≤ first
   upto : first + count ≤ 2 ^ 56
   some : 1 ≤ count
@@ -75,15 +74,15 @@ header_takes bytes x e =
     let end = length bytes in
     let first = little_number 8 bytes in
     let count = little_number 4 (drop 8 bytes) in
-    let a = guard_ok (ltb MAX_BATCH end) TooLong _ e in
+    let a = guard_ok (ltb 1048576 end) TooLong _ e in
     let b = guard_ok (ltb end 12) (Short end) _ a.1 in
-    let c = guard_ok (ltb MAX_OPS count) TooMany _ b.1 in
+    let c = guard_ok (ltb 4096 count) TooMany _ b.1 in
     let d = guard_ok (eqb first 0 || ltb (2 ^ 56) (first + count)) BadNumbers _ c.1 in
     let f = guard_ok (eqb count 0) (BadCount 0 0) _ d.1 in
     let numbers = or_parts (eqb first 0) (ltb (2 ^ 56) (first + count)) d.0 in
-    let short : end ≤ MAX_BATCH = ltb-false MAX_BATCH end a.0 in
+    let short : end ≤ 1048576 = ltb-false 1048576 end a.0 in
     let long : 12 ≤ end = ltb-false end 12 b.0 in
-    let few : count ≤ MAX_OPS = ltb-false MAX_OPS count c.0 in
+    let few : count ≤ 4096 = ltb-false 4096 count c.0 in
     let nonzero : first ≡ 0 → ⊥ = eqb-false first 0 numbers.0 in
     let upto : first + count ≤ 2 ^ 56 = ltb-false (2 ^ 56) (first + count) numbers.1 in
     let stated : count ≡ 0 → ⊥ = eqb-false count 0 f.0 in
@@ -97,7 +96,7 @@ header_again bytes first count h =
     let from = h.from in
     let numbers : (eqb first 0 || ltb (2 ^ 56) (first + count)) ≡ false = or_from (eqb first 0) (ltb (2 ^ 56) (first + count)) (ne_eqb first 0 (λ e. omega arith)) (le-ltb (2 ^ 56) (first + count) h.upto) in
     let stated : eqb count 0 ≡ false = ne_eqb count 0 (λ e. omega arith) in
-    rw (h.first_is, h.count_is, le-ltb MAX_BATCH (length bytes) h.short, le-ltb (length bytes) 12 h.long, le-ltb MAX_OPS count h.few, numbers, stated) refl
+    rw (h.first_is, h.count_is, le-ltb 1048576 (length bytes) h.short, le-ltb (length bytes) 12 h.long, le-ltb 4096 count h.few, numbers, stated) refl
 
 -- the bytes of the first number and of the count, and those behind them
 header_parts : (bytes : List ℕ) (first count : ℕ) → AreBytes bytes → IsHeader bytes first count → bytes ≡ (little_bytes 8 first ++ little_bytes 4 count) ++ drop 12 bytes

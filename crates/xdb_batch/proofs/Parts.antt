@@ -1,7 +1,7 @@
 -- A part that is read is the part that was spelled, and a part that is spelled is read again.
-use Rattle.std.proofs.Common.{◌≡◌, ℕ, zero, suc, ◌+◌, ◌-◌, ◌*◌, ◌^◌, ◌<◌, ◌≤◌, Bool, true, false, ◌||◌, cond, eqb, ltb, List, [], ◌∷◌, ◌++◌, length, get_or, take, drop, append_assoc, subst, Result, Ok, Err, refl, sym, ap, ◌∙◌, arith, inl, inr}
+use Rattle.std.proofs.Common.{◌≡◌, ℕ, suc, ◌-◌, ◌^◌, ◌<◌, ◌≤◌, Bool, true, false, ◌||◌, cond, eqb, ltb, List, [], ◌∷◌, ◌++◌, length, take, drop, append_assoc, subst, Result, Ok, Err, refl, sym, ap, ◌∙◌, arith, inl, inr}
 use Rattle.std.specs.Int.{w32, w64, from_le_bytes}
-use Rattle.std.proofs.lemmas.Bool.{lt-ltb, le-ltb, ltb-true, ltb-false, eqb-true, or_parts, or_from}
+use Rattle.std.proofs.lemmas.Bool.{le-ltb, ltb-false, eqb-true, or_parts, or_from}
 use Rattle.std.proofs.lemmas.List.{length-append, length-take, length-take-le, take_at, drop_at, take-append-drop, get_or-take, get_or_past}
 use Rattle.std.proofs.lemmas.Nat.{le_bytes_4, le_bytes_8}
 use Rattle.std.proofs.lemmas.Bool.{cases_lt}
@@ -24,7 +24,7 @@ use Rattle.xdb_key.specs.declared.op.Op.TheVariants.{Set, Del, DelSpan}
 use Rattle.xdb_batch.specs.Reading.{len_or, len_at, string_at, kind_at, body_at, op_at}
 use Rattle.xdb_batch.specs.Spelling.{string, op_bytes, IsOp}
 use Rattle.xdb_batch.specs.declared.error.BatchBad.{BatchBad}
-use Rattle.xdb_batch.specs.declared.error.BatchBad.TheVariants.{Short, BadKey, BadKind}
+use Rattle.xdb_batch.specs.declared.error.BatchBad.TheVariants.{Short, BadKey}
 
 -- what a reader took from the front
 pub record Takes (bytes text rest : List ℕ) : Type 0 where

@@ -5,7 +5,6 @@ use Rattle.xdb_key.specs.Ops.{op_len, batch_len}
 use Rattle.xdb_key.specs.declared.TheConstants.{MAX_VALUE}
 use Rattle.xdb_key.specs.declared.op.Op.{Op}
 use Rattle.xdb_key.specs.declared.op.Op.TheVariants.{Set, Del, DelSpan}
-use Rattle.xdb_batch.specs.declared.TheConstants.{MAX_OPS, MAX_BATCH}
 use Rattle.xdb_batch.specs.declared.error.BatchNo.{BatchNo}
 use Rattle.xdb_batch.specs.declared.error.BatchNo.TheVariants.{ValueTooLong, TooMany, TooLong}
 
@@ -19,8 +18,8 @@ value_len (DelSpan range) = 0
 abbrev pub refusal_at : ℕ → ℕ → Op → Option BatchNo
 refusal_at count len op =
     if nat_lt MAX_VALUE (value_len op) then Some (ValueTooLong (value_len op)) else (
-    if nat_le MAX_OPS count then Some TooMany else (
-    if nat_lt MAX_BATCH (len + op_len op) then Some TooLong else None))
+    if nat_le 4096 count then Some TooMany else (
+    if nat_lt 1048576 (len + op_len op) then Some TooLong else None))
 
 abbrev pub refusal : List Op → Op → Option BatchNo
 refusal ops op = refusal_at (length ops) (batch_len ops) op

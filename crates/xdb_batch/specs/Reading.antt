@@ -15,7 +15,6 @@ use Rattle.xdb_key.specs.declared.op.Kind.{Kind}
 use Rattle.xdb_key.specs.declared.op.Kind.TheVariants as kinds
 use Rattle.xdb_key.specs.declared.op.Op.{Op}
 use Rattle.xdb_key.specs.declared.op.Op.TheVariants.{Set, Del, DelSpan}
-use Rattle.xdb_batch.specs.declared.TheConstants.{MAX_OPS, MAX_BATCH}
 use Rattle.xdb_batch.specs.declared.error.BatchBad.{BatchBad}
 use Rattle.xdb_batch.specs.declared.error.BatchBad.TheVariants.{TooLong, Short, TooMany, BadNumbers, BadCount, BadKind, BadVarint, BadKey, Trailing, Memory}
 
@@ -87,9 +86,9 @@ header_at bytes =
     let end = length bytes in
     let first = little_number 8 bytes in
     let count = little_number 4 (drop 8 bytes) in
-    if nat_lt MAX_BATCH end then Err TooLong else (
+    if nat_lt 1048576 end then Err TooLong else (
     if nat_lt end 12 then Err (Short end) else (
-    if nat_lt MAX_OPS count then Err TooMany else (
+    if nat_lt 4096 count then Err TooMany else (
     if first == 0 || nat_lt (2 ^ 56) (first + count) then Err BadNumbers else (
     if count == 0 then Err (BadCount 0 0) else Ok (first, count)))))
 

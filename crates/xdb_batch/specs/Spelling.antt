@@ -11,7 +11,6 @@ use Rattle.xdb_key.specs.Varint.{varint}
 use Rattle.xdb_key.specs.declared.op.Kind.TheVariants as kinds
 use Rattle.xdb_key.specs.declared.op.Op.{Op}
 use Rattle.xdb_key.specs.declared.op.Op.TheVariants.{Set, Del, DelSpan}
-use Rattle.xdb_batch.specs.declared.TheConstants.{MAX_OPS, MAX_BATCH}
 
 -- a string: its length, and then its bytes
 abbrev pub string : List ℕ → List ℕ
@@ -33,11 +32,11 @@ IsOp (Set key value) = IsKey key × IsValue value
 IsOp (Del key) = IsKey key
 IsOp (DelSpan range) = IsBound range.lo × IsBound range.hi × IsTrue (is_below range.lo range.hi)
 
--- what a batch may hold
+-- what a batch may hold: at most 4,096 operations, in at most 1,048,576 bytes
 pub record AreOps (ops : List Op) : Type 0 where
-  pub few : length ops ≤ MAX_OPS
+  pub few : length ops ≤ 4096
   pub each : AllByRecursion IsOp ops
-  pub short : batch_len ops ≤ MAX_BATCH
+  pub short : batch_len ops ≤ 1048576
 
 -- what has a spelling: a batch that isn't empty, whose numbers are at least 1 and below 2^56
 pub record IsBatch (first : ℕ) (ops : List Op) : Type 0 where

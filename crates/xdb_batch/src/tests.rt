@@ -1,4 +1,4 @@
-use crate::{Batch, BatchBad, BatchNo, MAX_BATCH, MAX_OPS};
+use crate::{Batch, BatchBad, BatchNo};
 use std::alloc::Global;
 use std::test::Fail;
 use xdb_key::{Bound, Key, KeyRange, Op};
@@ -222,7 +222,7 @@ fn values_and_lengths_have_limits(rt: HostRuntime) -> Result<(), Fail> {
     batch.set(key(alloc, "a")?, value(alloc, 65_428)?)?;
     assert_eq!(rt; batch.del(key(alloc, "a")?), Err(BatchNo::TooLong));
     let bytes = written(&batch, 1)?;
-    assert_eq!(rt; bytes.len(), MAX_BATCH);
+    assert_eq!(rt; bytes.len(), 1_048_576);
     assert_eq!(rt; defect(alloc, &bytes)?, None);
     Ok(())
 }
@@ -231,7 +231,7 @@ fn values_and_lengths_have_limits(rt: HostRuntime) -> Result<(), Fail> {
 fn counts_have_a_limit(rt: HostRuntime) -> Result<(), Fail> {
     let alloc = rt.alloc();
     let mut batch = Batch::new(alloc);
-    for _ in 0..MAX_OPS {
+    for _ in 0..4096 {
         batch.del(key(alloc, "a")?)?;
     }
     assert_eq!(rt; batch.del(key(alloc, "a")?), Err(BatchNo::TooMany));
