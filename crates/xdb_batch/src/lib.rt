@@ -1,4 +1,5 @@
-//! Batches: operations that take effect together, and their bytes in the layout of Pebble's batches.
+//! Batches: operations that take effect together, and their bytes. The layout is that of Pebble's and
+//! LevelDB's batches (`leveldb/db/write_batch.cc`), with the kinds of this project alone.
 #![tactic(auto)]
 
 mod adding;

@@ -1,5 +1,5 @@
 //! Batches read from bytes, in one pass from left to right.
-ghost use Rattle.std.specs.Prelude.{◌≡◌, ◌<◌, ◌≤◌, ◌^◌, ℕ, List, length, drop, IfOk, Result};
+ghost use Rattle.std.specs.Prelude.{◌≡◌, ◌<◌, ◌≤◌, length, IfOk};
 ghost use Rattle.xdb_key.specs.declared.TheConstants.{MAX_KEY, MAX_BOUND, MAX_VALUE};
 ghost use Rattle.xdb_batch.specs.Reading.{Answers, len_at, string_at, kind_at, body_at, op_at, ops_at, header_at, batch_at};
 
