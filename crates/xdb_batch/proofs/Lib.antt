@@ -1,0 +1,4 @@
+pub mod Lengths
+pub mod Parts
+pub mod Batches
+pub mod Loop
