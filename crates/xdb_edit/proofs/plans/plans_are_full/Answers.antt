@@ -1,0 +1,5 @@
+use Rattle.xdb_edit.proofs.PlanLaws.{plan_for-full}
+use Rattle.xdb_edit.proofs.plans.plans_are_full.Goals as goal
+
+pub returns : goal.returns
+returns c = plan_for-full
