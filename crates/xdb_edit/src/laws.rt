@@ -1,5 +1,5 @@
 //! Laws of the definitions, each a function that does nothing.
-ghost use Rattle.std.specs.Prelude.{◌≡◌, [], ◌∷◌, ◌++◌, ℕ, List, Ok, Some, None, IsTrue, is_none};
+ghost use Rattle.std.specs.Prelude.{◌≡◌, [], ◌∷◌, ◌++◌, ℕ, List, Ok, Some, IsTrue};
 ghost use Rattle.std.specs.List.{list_all};
 ghost use Rattle.xdb_key.specs.Reading.{AreBytes};
 ghost use Rattle.xdb_edit.specs.Changes.{Changes, changes};

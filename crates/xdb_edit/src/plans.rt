@@ -1,6 +1,6 @@
 //! What plans keep, and what plans and places are over three small versions, each a function that does
 //! nothing.
-ghost use Rattle.std.specs.Prelude.{◌≡◌, [], ◌∷◌, ◌++◌, ℕ, suc, List, Option, Some, None, IsTrue};
+ghost use Rattle.std.specs.Prelude.{◌≡◌, [], ◌∷◌, ◌++◌, ℕ, suc, List, Some, None, IsTrue};
 ghost use Rattle.std.specs.List.{list_all};
 ghost use Rattle.xdb_key.specs.Bounds.{Bounds, covers};
 ghost use Rattle.xdb_meta.specs.Table.{bounds_of};

@@ -1,5 +1,5 @@
 //! Fields that are the two bounds of a range, each a string.
-ghost use Rattle.std.specs.Prelude.{◌≡◌, ◌-◌, ◌^◌, ◌<◌, ◌≤◌, ◌++◌, length, IfOk, OnOk};
+ghost use Rattle.std.specs.Prelude.{◌≡◌, ◌-◌, ◌<◌, ◌≤◌, ◌++◌, length, IfOk, OnOk};
 ghost use Rattle.xdb_edit.specs.Spelling.{string, range_bytes};
 ghost use Rattle.xdb_edit.specs.Reading.{Gives, bound_at, range_at};
 

@@ -1,10 +1,9 @@
 //! The records of an edit: how each is read, and how it is written.
-ghost use Rattle.std.specs.Prelude.{◌≡◌, ◌-◌, ◌^◌, ◌<◌, ◌≤◌, ◌++◌, length, take, drop, IsTrue, IfOk, OnOk};
-ghost use Rattle.xdb_key.specs.Varint.{varint, varint_at};
+ghost use Rattle.std.specs.Prelude.{◌≡◌, ◌-◌, ◌<◌, ◌≤◌, ◌++◌, length, IsTrue, IfOk, OnOk};
 ghost use Rattle.xdb_meta.specs.Table.{IsTable, is_number};
 ghost use Rattle.xdb_edit.specs.Records.{rank_of, is_before, is_level};
-ghost use Rattle.xdb_edit.specs.Spelling.{string, range_bytes, table_bytes, physical_bytes, virtual_bytes, record_bytes};
-ghost use Rattle.xdb_edit.specs.Reading.{Gives, as_field, as_tag, number_at, bound_at, range_at, table_at, removed_at, new_backing_at, physical_at, virtual_at, fields_at, record_at};
+ghost use Rattle.xdb_edit.specs.Spelling.{table_bytes, physical_bytes, virtual_bytes, record_bytes};
+ghost use Rattle.xdb_edit.specs.Reading.{Gives, table_at, removed_at, new_backing_at, physical_at, virtual_at, fields_at, record_at};
 
 use crate::input::Input;
 use crate::{EditBad, number, range};

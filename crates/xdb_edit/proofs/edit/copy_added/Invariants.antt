@@ -1,3 +1,4 @@
+-- The first pairs are copied.
 use Rattle.std.proofs.Common.{◌≡◌, take}
 use Rattle.xdb_edit.proofs.edit.copy_added.Given as goal
 

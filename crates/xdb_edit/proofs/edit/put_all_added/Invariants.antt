@@ -1,3 +1,4 @@
+-- The first tables are written.
 use Rattle.std.proofs.Common.{◌≡◌, ◌++◌, take, All}
 use Rattle.std.specs.List.{flat_map}
 use Rattle.xdb_meta.specs.Table.{IsTable}

@@ -1,3 +1,4 @@
+-- The first removals are written.
 use Rattle.std.proofs.Common.{◌≡◌, ◌++◌, take}
 use Rattle.std.specs.List.{flat_map}
 use Rattle.xdb_edit.specs.declared.record.Record.TheVariants.{Removed}

@@ -1,3 +1,4 @@
+-- The loop begins, goes on, stops and ends as reading does.
 use Rattle.std.proofs.Common.{◌≡◌, ◌∙◌, subst, sym, ap, arith, length, ◌≤◌}
 use Rattle.std.proofs.lemmas.Bool.{eqb-true, eqb-false}
 use Rattle.std.proofs.lemmas.Result.{err_from_is_err_and}

@@ -1,3 +1,4 @@
+-- What is left goes on with what was read.
 use Rattle.std.proofs.Common.{length}
 use Rattle.xdb_edit.proofs.ReadingLoop.{IsHalfway}
 use Rattle.xdb_edit.proofs.edit.read_all.Given as goal

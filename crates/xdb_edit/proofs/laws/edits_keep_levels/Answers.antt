@@ -1,3 +1,4 @@
+-- What an edit keeps of the levels.
 use Rattle.xdb_edit.proofs.VersionLaws.{sorted_kept, ranges_kept, disjoint_kept}
 use Rattle.xdb_edit.proofs.laws.edits_keep_levels.Goals as goal
 

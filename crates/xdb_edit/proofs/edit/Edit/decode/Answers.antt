@@ -1,3 +1,4 @@
+-- What is read is the edit that is spelled, by the two laws of edits.
 use Rattle.std.proofs.Common.{◌∙◌, subst, ap, arith}
 use Rattle.xdb_edit.specs.Reading.{Gives, edit_at}
 use Rattle.xdb_edit.proofs.EditLaws.{edit_found, edit_again}

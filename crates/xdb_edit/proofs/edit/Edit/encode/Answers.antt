@@ -1,3 +1,4 @@
+-- The three lists are written one behind the other, and read again.
 use Rattle.std.proofs.Common.{◌∙◌, ap, subst, All, List, ℕ}
 use Rattle.std.proofs.lemmas.List.Elements.{recursion_from_All}
 use Rattle.xdb_meta.specs.Table.{Table, IsTable}
