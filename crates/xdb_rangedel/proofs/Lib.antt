@@ -1,0 +1,4 @@
+pub mod MemberLaws
+pub mod NewestLaws
+pub mod LayerLaws
+pub mod CoverLaws
