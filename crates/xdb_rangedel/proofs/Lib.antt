@@ -2,3 +2,6 @@ pub mod MemberLaws
 pub mod NewestLaws
 pub mod LayerLaws
 pub mod CoverLaws
+pub mod PieceLaws
+pub mod SpanLaws
+pub mod ViewLaws

@@ -1,6 +1,7 @@
 //! Laws of the definitions, each a function that does nothing.
-ghost use Rattle.std.specs.Prelude.{◌≡◌, ℕ, ◌≤◌, ◌&&◌, List, ◌++◌, IsTrue, Option, Some, None, nat_lt, if◌then◌else◌};
+ghost use Rattle.std.specs.Prelude.{◌≡◌, ℕ, ◌≤◌, ◌&&◌, List, ◌++◌, map, IsTrue, Option, Some, None, nat_lt, if◌then◌else◌};
 ghost use Rattle.std.specs.FinMap.{FinMap};
+ghost use Rattle.std.specs.Option.{option_map};
 ghost use Rattle.xdb_key.specs.Order.{key_cmp, is_below, is_upto};
 ghost use Rattle.xdb_key.specs.Bounds.{Bounds, holds};
 ghost use Rattle.xdb_key.specs.Entries.{Tombstone};
@@ -8,8 +9,9 @@ ghost use Rattle.xdb_rangedel.specs.Members.{Has, SameMembers};
 ghost use Rattle.xdb_rangedel.specs.Cover.{cover_of};
 ghost use Rattle.xdb_rangedel.specs.Pieces.{pieces};
 ghost use Rattle.xdb_rangedel.specs.Clip.{parts_before, parts_from, parts_in};
-ghost use Rattle.xdb_rangedel.specs.Content.{Item, entry, Mark, here, mark, is_seen, newer, newest, verdict, IsImage, IsClear};
-ghost use Rattle.xdb_rangedel.specs.Layers.{IsGreatest, IsAllBelow, IsAllFrom, IsSilentAt, IsNewerAt, IsOverAt, over, IsDrawn};
+ghost use Rattle.xdb_rangedel.specs.Content.{Item, entry, span, Mark, here, mark, is_seen, newer, newest, verdict, IsImage, IsClear, entries_in, spans_in, in_pieces};
+ghost use Rattle.xdb_rangedel.specs.View.{restricted};
+ghost use Rattle.xdb_rangedel.specs.Layers.{IsGreatest, IsAllBelow, IsAllFrom, IsSilentAt, IsNewerAt, IsOverAt, over, IsDrawn, deleted_at};
 
 /// The newest of joined contents is the newer of their newest.
 pub fn newest_of_joined()
@@ -100,4 +102,23 @@ pub fn cover_of_parts()
         → cover_of (parts_from at ts) k limit ≡ (if is_upto at k then cover_of ts k limit else None) }
     ensures pieces { (ts : List Tombstone) (k : List ℕ) (limit : ℕ)
         → cover_of (pieces ts) k limit ≡ cover_of ts k limit }
+{}
+
+/// The part of a content in a range says inside what the content says, and nothing outside. It is
+/// drawn from the content.
+pub fn part_in_range()
+    ensures says { (r : Bounds) (c : List Item) (limit : ℕ) (k : List ℕ)
+        → newest (restricted r c) limit k ≡ (if holds r k then newest c limit k else None) }
+    ensures drawn { (r : Bounds) (c : List Item) → IsDrawn c (restricted r c) }
+{}
+
+/// Spans say of a key that it was deleted at the number that covers it; a content says the same
+/// with its spans in pieces, and is the newer of what its entries and its spans say.
+pub fn spans_in_content()
+    ensures covered { (ts : List Tombstone) (limit : ℕ) (k : List ℕ)
+        → newest (map span ts) limit k ≡ option_map deleted_at (cover_of ts k limit) }
+    ensures apart { (c : List Item) (limit : ℕ) (k : List ℕ)
+        → newest c limit k ≡ newer (newest (entries_in c) limit k) (newest (map span (spans_in c)) limit k) }
+    ensures pieces { (c : List Item) (limit : ℕ) (k : List ℕ) → newest (in_pieces c) limit k ≡ newest c limit k }
+    ensures drawn { (c : List Item) → IsDrawn c (in_pieces c) }
 {}
