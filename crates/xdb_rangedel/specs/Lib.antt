@@ -5,3 +5,4 @@ pub mod Clip
 pub mod Content
 pub mod View
 pub mod Layers
+pub mod Sweep

@@ -1,0 +1,43 @@
+-- How fragments are found: gaps between neighbouring bounds, and the numbers of the spans over them.
+use Rattle.std.specs.Prelude.{◌≡◌, ℕ, zero, suc, ◌+◌, ◌<◌, ◌≤◌, ◌^◌, Bool, ◌&&◌, ◌||◌, List, [], ◌∷◌, ◌++◌, map, get_or, nat_lt, nat_le, IsTrue, if◌then◌else◌}
+use Rattle.std.specs.List.{All, AllPairs}
+use Rattle.xdb_key.specs.Order.{is_below, is_upto}
+use Rattle.xdb_key.specs.Bounds.{bounds}
+use Rattle.xdb_key.specs.Entries.{Tombstone, tombstone}
+
+-- the span ends at the bound or before
+abbrev pub ends_by : List ℕ → Tombstone → Bool
+ends_by at t = is_upto t.range.hi at
+
+abbrev pub starts_before : List ℕ → Tombstone → Bool
+starts_before at t = is_below t.range.lo at
+
+-- the span ends at the key or before, or starts there and its number isn't below the limit
+abbrev pub is_passed : List ℕ → ℕ → Tombstone → Bool
+is_passed key limit t = ends_by key t || (is_upto t.range.lo key && nat_le limit t.seq)
+
+-- each bound stands before each later one
+abbrev pub IsRising : List (List ℕ) → Type 0
+IsRising ats = AllPairs (λ a b. IsTrue (is_below a b)) ats
+
+-- how many bounds of the front stand before this one
+abbrev pub place_of : List (List ℕ) → List ℕ → ℕ
+place_of [] at = 0
+place_of (b ∷ bs) at = if is_below b at then suc (place_of bs at) else 0
+
+-- the numbers are sequence numbers
+abbrev pub HasSmallNumbers : List ℕ → Type 0
+HasSmallNumbers ns = All (λ n. n < 2 ^ 56) ns
+
+-- from the first place on and before the second
+abbrev pub is_between : ℕ → ℕ → ℕ → Bool
+is_between from to j = nat_le from j && nat_lt j to
+
+-- a span for each number, over the gap
+abbrev pub over_gap : List ℕ → List ℕ → List ℕ → List Tombstone
+over_gap lo hi ns = map (tombstone (bounds lo hi)) ns
+
+-- the spans over the first gaps
+abbrev pub laid : List (List ℕ) → List (List ℕ) → ℕ → List Tombstone
+laid ats columns zero = []
+laid ats columns (suc n) = laid ats columns n ++ over_gap (get_or ats n []) (get_or ats (suc n) []) (get_or columns n [])
