@@ -121,6 +121,10 @@ cover_along xs ys k limit (Some m) (Some n) same c d =
 pub cover_of_unordered : (xs ys : List Tombstone) → SameMembers xs ys → (k : List ℕ) (limit : ℕ) → cover_of xs k limit ≡ cover_of ys k limit
 cover_of_unordered xs ys same k limit = cover_along xs ys k limit (cover_of xs k limit) (cover_of ys k limit) same (covered xs k limit) (covered ys k limit)
 
+-- what is shown to cover is the cover
+pub cover_of-covered : (ts : List Tombstone) (k : List ℕ) (limit : ℕ) (o : Option ℕ) → Covered ts k limit o → o ≡ cover_of ts k limit
+cover_of-covered ts k limit o c = cover_along ts ts k limit o (cover_of ts k limit) (λ x. (λ h. h, λ h. h)) c (covered ts k limit)
+
 -- parts of spans
 
 -- a test that follows from another adds nothing to it
@@ -137,15 +141,15 @@ upto-from_not_below : (a b : List ℕ) → is_below a b ≡ false → is_upto b 
 upto-from_not_below a b h = upto-not_below b a ∙ ap not h
 
 pub upto-later_of : (a b k : List ℕ) → is_upto (later_of a b) k ≡ (is_upto a k && is_upto b k)
-upto-later_of a b k = elim (cases_Bool (is_below a b)) [
-  | inl h ↦ ap (λ x. is_upto (cond x b a) k) h ∙ sym (and_implied (is_upto b k) (is_upto a k) (λ u. upto_trans a b k (upto_from_below a b h) u))
-  | inr h ↦ ap (λ x. is_upto (cond x b a) k) h ∙ sym (and_implied_right (is_upto a k) (is_upto b k) (λ u. upto_trans b a k (upto-from_not_below a b h) u))
+upto-later_of a b k = elim (cases_Bool (is_below b a)) [
+  | inl h ↦ ap (λ x. is_upto (cond x a b) k) h ∙ sym (and_implied_right (is_upto a k) (is_upto b k) (λ u. upto_trans b a k (upto_from_below b a h) u))
+  | inr h ↦ ap (λ x. is_upto (cond x a b) k) h ∙ sym (and_implied (is_upto b k) (is_upto a k) (λ u. upto_trans a b k (upto-from_not_below b a h) u))
 ]
 
 pub below-earlier_of : (a b k : List ℕ) → is_below k (earlier_of a b) ≡ (is_below k a && is_below k b)
-below-earlier_of a b k = elim (cases_Bool (is_below b a)) [
-  | inl h ↦ ap (λ x. is_below k (cond x b a)) h ∙ sym (and_implied (is_below k b) (is_below k a) (λ u. below_trans k b a u h))
-  | inr h ↦ ap (λ x. is_below k (cond x b a)) h ∙ sym (and_implied_right (is_below k a) (is_below k b) (λ u. below_upto k a b u (upto-from_not_below b a h)))
+below-earlier_of a b k = elim (cases_Bool (is_below a b)) [
+  | inl h ↦ ap (λ x. is_below k (cond x a b)) h ∙ sym (and_implied_right (is_below k a) (is_below k b) (λ u. below_trans k a b u h))
+  | inr h ↦ ap (λ x. is_below k (cond x a b)) h ∙ sym (and_implied (is_below k b) (is_below k a) (λ u. below_upto k b a u (upto-from_not_below a b h)))
 ]
 
 and_pairs : (a b c d : Bool) → ((a && b) && (c && d)) ≡ ((a && c) && (b && d))

@@ -5,3 +5,5 @@ pub mod CoverLaws
 pub mod PieceLaws
 pub mod SpanLaws
 pub mod ViewLaws
+pub mod PartLaws
+pub mod FragmentLaws

@@ -6,10 +6,10 @@ use Rattle.xdb_key.specs.Bounds.{Bounds, bounds, meets}
 use Rattle.xdb_key.specs.Entries.{Tombstone, tombstone}
 
 abbrev pub later_of : List ℕ → List ℕ → List ℕ
-later_of a b = if is_below a b then b else a
+later_of a b = if is_below b a then a else b
 
 abbrev pub earlier_of : List ℕ → List ℕ → List ℕ
-earlier_of a b = if is_below b a then b else a
+earlier_of a b = if is_below a b then a else b
 
 -- the span without what lies before the bound
 abbrev pub starting_from : List ℕ → Tombstone → Tombstone
