@@ -1,10 +1,11 @@
 -- Range tombstones cut into pieces at their bounds: two pieces have equal bounds, or are disjoint.
-use Rattle.std.specs.Prelude.{ℕ, Bool, ◌&&◌, ◌||◌, List, [], ◌∷◌, ◌++◌, nat_lt, IsTrue, if◌then◌else◌}
+use Rattle.std.specs.Prelude.{◌≡◌, ℕ, Bool, false, ◌&&◌, ◌||◌, List, [], ◌∷◌, ◌++◌, nat_lt, IsTrue, if◌then◌else◌}
 use Rattle.std.specs.List.{All, AllPairs}
 use Rattle.std.specs.Ordering.{eq_by_cmp}
 use Rattle.xdb_key.specs.Order.{key_cmp, is_below, is_upto}
-use Rattle.xdb_key.specs.Bounds.{bounds}
+use Rattle.xdb_key.specs.Bounds.{bounds, covers}
 use Rattle.xdb_key.specs.Entries.{Tombstone, tombstone}
+use Rattle.xdb_rangedel.specs.Members.{Has}
 
 -- the starts and ends
 abbrev pub ends : List Tombstone → List (List ℕ)
@@ -48,3 +49,11 @@ is_ordered t = is_below t.range.lo t.range.hi
 pub record AreFragments (ts : List Tombstone) : Type 0 where
   pub ordered : All (λ t. IsTrue (is_ordered t)) ts
   pub apart : AllPairs (λ s t. IsTrue (precedes s t)) ts
+
+-- a part of a span of the list, with its number, from one bound of a span to another, and no bound lies inside it
+pub record IsPiece (ts : List Tombstone) (t : Tombstone) : Type 0 where
+  pub source : (s : Tombstone) × Has ts s × IsTrue (covers s.range t.range) × (s.seq ≡ t.seq)
+  pub ordered : IsTrue (is_ordered t)
+  pub start : Has (ends ts) t.range.lo
+  pub end : Has (ends ts) t.range.hi
+  pub whole : (at : List ℕ) → Has (ends ts) at → splits at t ≡ false

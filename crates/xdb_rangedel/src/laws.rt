@@ -1,13 +1,14 @@
 //! Laws of the definitions, each a function that does nothing.
 ghost use Rattle.std.specs.Prelude.{◌≡◌, ℕ, ◌≤◌, ◌&&◌, List, ◌++◌, map, IsTrue, Option, Some, None, nat_lt, if◌then◌else◌};
 ghost use Rattle.std.specs.FinMap.{FinMap};
+ghost use Rattle.std.specs.List.{All};
 ghost use Rattle.std.specs.Option.{option_map};
 ghost use Rattle.xdb_key.specs.Order.{key_cmp, is_below, is_upto};
 ghost use Rattle.xdb_key.specs.Bounds.{Bounds, holds};
 ghost use Rattle.xdb_key.specs.Entries.{Tombstone};
 ghost use Rattle.xdb_rangedel.specs.Members.{Has, SameMembers};
 ghost use Rattle.xdb_rangedel.specs.Cover.{cover_of};
-ghost use Rattle.xdb_rangedel.specs.Pieces.{pieces};
+ghost use Rattle.xdb_rangedel.specs.Pieces.{pieces, is_ordered, IsPiece};
 ghost use Rattle.xdb_rangedel.specs.Clip.{parts_before, parts_from, parts_in};
 ghost use Rattle.xdb_rangedel.specs.Content.{Item, entry, span, Mark, here, mark, is_seen, newer, newest, verdict, IsImage, IsClear, entries_in, spans_in, in_pieces};
 ghost use Rattle.xdb_rangedel.specs.View.{restricted};
@@ -121,4 +122,12 @@ pub fn spans_in_content()
         → newest c limit k ≡ newer (newest (entries_in c) limit k) (newest (map span (spans_in c)) limit k) }
     ensures pieces { (c : List Item) (limit : ℕ) (k : List ℕ) → newest (in_pieces c) limit k ≡ newest c limit k }
     ensures drawn { (c : List Item) → IsDrawn c (in_pieces c) }
+{}
+
+/// The pieces of spans are the parts from one bound to the next, each with the numbers of the spans
+/// over it.
+pub fn pieces_lie_between_bounds()
+    ensures tell { (ts : List Tombstone) → All (λ s. IsTrue (is_ordered s)) ts
+        → (t : Tombstone) → Has (pieces ts) t → IsPiece ts t }
+    ensures there { (ts : List Tombstone) (t : Tombstone) → IsPiece ts t → Has (pieces ts) t }
 {}
