@@ -34,10 +34,10 @@ All-from_Has P xs h = λ k d l. h (get_or xs k d) (Has-get_or xs k d l)
 pub All-at_Has : {A : Type 0} (P : A → Type 0) (xs : List A) (x : A) → All P xs → Has xs x → P x
 All-at_Has P xs x all h = All-contains P xs x all (Contains-from_Has xs x h)
 
-AllPairs-head : {A : Type 0} (R : A → A → Type 0) (x : A) (xs : List A) → AllPairs R (x ∷ xs) → All (R x) xs
+pub AllPairs-head : {A : Type 0} (R : A → A → Type 0) (x : A) (xs : List A) → AllPairs R (x ∷ xs) → All (R x) xs
 AllPairs-head R x xs h = λ k d l. h 0 (suc k) d (omega arith) (omega arith)
 
-AllPairs-tail : {A : Type 0} (R : A → A → Type 0) (x : A) (xs : List A) → AllPairs R (x ∷ xs) → AllPairs R xs
+pub AllPairs-tail : {A : Type 0} (R : A → A → Type 0) (x : A) (xs : List A) → AllPairs R (x ∷ xs) → AllPairs R xs
 AllPairs-tail R x xs h = λ i j d less inside. h (suc i) (suc j) d (omega arith) (omega arith)
 
 pub AreFragments-nil : AreFragments []

@@ -7,3 +7,6 @@ pub mod SpanLaws
 pub mod ViewLaws
 pub mod PartLaws
 pub mod FragmentLaws
+pub mod StripLaws
+pub mod ColumnLaws
+pub mod LaidLaws

@@ -27,7 +27,7 @@ Has-from_map f [] z h = absurd h
 Has-from_map f (y ∷ xs) z (inl e) = (y, inl refl, e)
 Has-from_map f (y ∷ xs) z (inr h) = let from = Has-from_map f xs z h in (from.0, inr from.1, from.2)
 
-Has-cons_option : {B : Type 0} (o : Option B) (zs : List B) (z : B) → Has (cons_option o zs) z → (o ≡ Some z) ⊎ Has zs z
+pub Has-cons_option : {B : Type 0} (o : Option B) (zs : List B) (z : B) → Has (cons_option o zs) z → (o ≡ Some z) ⊎ Has zs z
 Has-cons_option None zs z h = inr h
 Has-cons_option (Some y) zs z (inl e) = inl (ap Some e)
 Has-cons_option (Some y) zs z (inr h) = inr h

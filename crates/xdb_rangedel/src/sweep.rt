@@ -1,14 +1,11 @@
 //! From spans to their fragments: the bounds are sorted, and each gap between neighbouring bounds
 //! gets the numbers of the spans over it, the greatest first.
-ghost use Rattle.std.specs.Prelude.{◌≡◌, ◌≤◌, ◌<◌, ◌^◌, ◌+◌, ℕ, List, [], ◌∷◌, ◌++◌, length, map, slice_index_or, IsTrue, IfOk, OnOk, if◌then◌else◌};
+ghost use Rattle.std.specs.Prelude.{◌≡◌, ◌≤◌, ◌<◌, ◌^◌, ◌+◌, ◌-◌, ◌==◌, ◌&&◌, ℕ, [], ◌∷◌, ◌++◌, length, map, replicate, slice_index_or, IsTrue, IfOk, OnOk, if◌then◌else◌};
 ghost use Rattle.std.specs.List.{All, AllPairs};
-ghost use Rattle.std.specs.List.Sorted.{IsSorted, IsPermutation};
-ghost use Rattle.xdb_key.specs.Bounds.{bounds};
 ghost use Rattle.xdb_key.specs.Order.{is_below};
-ghost use Rattle.xdb_key.specs.Entries.{Tombstone, tombstone};
 ghost use Rattle.xdb_rangedel.specs.Members.{SameMembers};
 ghost use Rattle.xdb_rangedel.specs.Pieces.{AreFragments, pieces, ends, is_ordered};
-ghost use Rattle.xdb_rangedel.specs.Sweep.{place_of, laid, is_between, IsRising, HasSmallNumbers};
+ghost use Rattle.xdb_rangedel.specs.Sweep.{place_of, laid, over_gap, is_between, IsRising, strip_of, FitsGaps, comes_first, AreColumns};
 
 use std::alloc::{AllocError, Global};
 use std::cmp::Reverse;
@@ -57,7 +54,7 @@ fn all_ends(alloc: Global, spans: &[Span]) -> Result<Vec<Bound>, AllocError>
     ensures ends { IfOk result (λ made. made.items ≡ ends spans.now) }
     ensures ordered { OnOk result (All (λ t. IsTrue (is_ordered t)) spans.now) }
 {
-    let mut bounds = Vec::with_capacity(alloc, 2 * spans.len())?;
+    let mut bounds = Vec::with_capacity(alloc, spans.len())?;
     for span in spans {
         bounds.push(span.range().lo().copy()?)?;
         bounds.push(span.range().hi().copy()?)?;
@@ -88,6 +85,8 @@ fn place(bounds: &[Bound], bound: &Bound) -> usize
 /// The spans as strips.
 fn strips(alloc: Global, spans: &[Span], bounds: &[Bound]) -> Result<Vec<Strip>, AllocError>
     requires { IsRising bounds.now }
+    ensures strips { IfOk result (λ made. made.items ≡ map (strip_of bounds.now) spans.now) }
+    ensures fit { IfOk result (λ made. All (FitsGaps (length bounds.now)) made.items) }
 {
     let mut strips = Vec::with_capacity(alloc, spans.len())?;
     for span in spans {
@@ -103,6 +102,9 @@ fn strips(alloc: Global, spans: &[Span], bounds: &[Bound]) -> Result<Vec<Strip>,
 /// The spans as strips, the greatest number first, and of one number the first start.
 fn sorted_strips(alloc: Global, spans: &[Span], bounds: &[Bound]) -> Result<Vec<Strip>, AllocError>
     requires { IsRising bounds.now }
+    ensures strips { IfOk result (λ made. SameMembers made.items (map (strip_of bounds.now) spans.now)) }
+    ensures fit { IfOk result (λ made. All (FitsGaps (length bounds.now)) made.items) }
+    ensures order { IfOk result (λ made. AllPairs (λ s t. IsTrue (comes_first s t)) made.items) }
 {
     let mut strips = strips(alloc, spans, bounds)?;
     strips.sort_unstable();
@@ -111,23 +113,34 @@ fn sorted_strips(alloc: Global, spans: &[Span], bounds: &[Bound]) -> Result<Vec<
 
 /// For each gap the numbers of the strips over it, falling. What an earlier strip of the same number
 /// reached isn't visited again, so the steps are as many as the strips and the numbers found.
-fn columns(alloc: Global, strips: &[Strip], gaps: usize) -> Result<Vec<Column>, AllocError> {
+fn columns(alloc: Global, strips: &[Strip], gaps: usize) -> Result<Vec<Column>, AllocError>
+    requires fit { All (FitsGaps gaps) strips.now }
+    requires order { AllPairs (λ s t. IsTrue (comes_first s t)) strips.now }
+    ensures { IfOk result (λ made. AreColumns strips.now gaps made.items) }
+{
     let mut columns = empty_columns(alloc, gaps)?;
     let mut number = 0;
     let mut reached = 0;
     for strip in strips {
         let Reverse(seq) = strip.number;
-        if seq != number {
-            number = seq;
-            reached = 0;
-        }
-        write(&mut columns, strip.from.max(reached), strip.to, seq)?;
-        reached = strip.to.max(reached);
+        let done = reached_with(seq, number, reached);
+        write(&mut columns, strip.from.max(done), strip.to, seq)?;
+        number = seq;
+        reached = strip.to.max(done);
     }
     Ok(columns)
 }
 
-fn empty_columns(alloc: Global, gaps: usize) -> Result<Vec<Column>, AllocError> {
+/// Up to where the columns have the number already, if it is that of the strip before.
+fn reached_with(seq: u64, number: u64, reached: usize) -> usize
+    ensures { result ≡ (if seq == number then reached else 0) }
+{
+    if seq == number { reached } else { 0 }
+}
+
+fn empty_columns(alloc: Global, gaps: usize) -> Result<Vec<Column>, AllocError>
+    ensures { IfOk result (λ made. made.items ≡ replicate gaps []) }
+{
     let mut columns = Vec::with_capacity(alloc, gaps)?;
     for _gap in 0..gaps {
         let numbers = Vec::new(alloc);
@@ -140,6 +153,8 @@ fn empty_columns(alloc: Global, gaps: usize) -> Result<Vec<Column>, AllocError> 
 fn write(columns: &mut [Column], from: usize, to: usize, seq: u64) -> Result<(), AllocError>
     requires inside { to ≤ length columns.old }
     requires small { seq < 2 ^ 56 }
+    ensures { OnOk result ((j : ℕ) → slice_index_or columns.new j []
+        ≡ slice_index_or columns.old j [] ++ (if is_between from to j then seq ∷ [] else [])) }
 {
     for at in from..to {
         let column = &mut columns[at];
@@ -151,7 +166,8 @@ fn write(columns: &mut [Column], from: usize, to: usize, seq: u64) -> Result<(),
 /// The fragments over each gap, gap by gap.
 fn lay(alloc: Global, bounds: &[Bound], columns: &[Column]) -> Result<Vec<Span>, AllocError>
     requires rising { IsRising bounds.now }
-    requires columns { length columns.now ≡ length bounds.now }
+    requires count { length columns.now ≡ length bounds.now }
+    ensures { IfOk result (λ made. made.items ≡ laid bounds.now columns.now (length bounds.now - 1)) }
 {
     let mut out = Vec::new(alloc);
     for end in 1..bounds.len() {
@@ -163,6 +179,7 @@ fn lay(alloc: Global, bounds: &[Bound], columns: &[Column]) -> Result<Vec<Span>,
 /// Appends a span from the one bound to the other for each number.
 fn lay_gap(out: &mut Vec<Span>, lo: &Bound, hi: &Bound, column: &Column) -> Result<(), AllocError>
     requires { IsTrue (is_below lo.now hi.now) }
+    ensures { OnOk result (out.new.items ≡ out.old.items ++ over_gap lo.now hi.now column.now) }
 {
     for seq in &column.numbers {
         let Ok(range) = KeyRange::new(lo.copy()?, hi.copy()?) else {
