@@ -43,7 +43,7 @@ AllPairs-tail R x xs h = λ i j d less inside. h (suc i) (suc j) d (omega arith)
 pub AreFragments-nil : AreFragments []
 AreFragments-nil = record { ordered = All-nil (λ t. IsTrue (is_ordered t)); apart = λ i j d less inside. absurd (omega arith) }
 
-AreFragments-tail : (t : Tombstone) (ts : List Tombstone) → AreFragments (t ∷ ts) → AreFragments ts
+pub AreFragments-tail : (t : Tombstone) (ts : List Tombstone) → AreFragments (t ∷ ts) → AreFragments ts
 AreFragments-tail t ts f = record {
   ordered = All-tail (λ x. IsTrue (is_ordered x)) t ts f.ordered;
   apart = AllPairs-tail (λ x y. IsTrue (precedes x y)) t ts f.apart;

@@ -10,3 +10,4 @@ pub mod FragmentLaws
 pub mod StripLaws
 pub mod ColumnLaws
 pub mod LaidLaws
+pub mod OnlyLaws

@@ -1,15 +1,16 @@
 -- Spans in a content: what they say of a key is what covers it, and entries and spans may be told apart.
 use Rattle.std.proofs.Common.{◌≡◌, ℕ, ◌+◌, ◌*◌, ◌<◌, ◌≤◌, Bool, true, false, ◌&&◌, cond, ltb, List, [], ◌∷◌, ◌++◌, map, Option, Some, None, inl, inr, ◌⊎◌, IsTrue, refl, sym, ap, ◌∙◌, subst, arith}
 use Rattle.std.proofs.lemmas.Bool.{lt-ltb, le-ltb, cases_lt, cases_Bool, and_parts, and_from}
+use Rattle.std.proofs.lemmas.List.{append-nil}
 use Rattle.std.specs.Option.{option_map}
 use Rattle.xdb_key.specs.Bounds.{Bounds, bounds, holds}
 use Rattle.xdb_key.specs.Order.{is_below, is_upto}
-use Rattle.xdb_key.specs.Entries.{Tombstone, tombstone}
+use Rattle.xdb_key.specs.Entries.{Point, Tombstone, tombstone}
 use Rattle.xdb_key.proofs.OrderLaws.{upto_trans, below_upto}
 use Rattle.xdb_rangedel.specs.Members.{Has}
 use Rattle.xdb_rangedel.specs.Cover.{greater, cover_by, cover_of}
 use Rattle.xdb_rangedel.specs.Pieces.{pieces}
-use Rattle.xdb_rangedel.specs.Content.{Item, entry, span, Verdict, deleted, Mark, seq_of, here, rank, said, mark, is_seen, mark_at, newer, newest, entries_in, spans_in, in_pieces}
+use Rattle.xdb_rangedel.specs.Content.{Item, entry, span, Verdict, deleted, Mark, seq_of, here, rank, said, mark, is_seen, mark_at, newer, newest, entries_in, spans_in, in_pieces, entry_of, content_of}
 use Rattle.xdb_rangedel.specs.Layers.{IsDrawn, deleted_at}
 use Rattle.xdb_rangedel.proofs.MemberLaws.{Has-append_cases, Has-from_map}
 use Rattle.xdb_rangedel.proofs.NewestLaws.{newer-none, newer-rises, newer-stays, newer_assoc, newest-append}
@@ -143,3 +144,38 @@ drawn-in_pieces c = λ k i h at_i. elim (Has-append_cases (entries_in c) (map sp
   | inl e ↦ (i, Has-entries_in c i e, at_i, refl, refl)
   | inr s ↦ let from = Has-from_map span (pieces (spans_in c)) i s in drawn_piece c k i from.0 from.1 from.2 at_i
 ]
+
+-- the content that code keeps as two lists
+
+entries_in-append : (c d : List Item) → entries_in (c ++ d) ≡ entries_in c ++ entries_in d
+entries_in-append [] d = refl
+entries_in-append (entry key seq value ∷ c) d = ap (λ x. entry key seq value ∷ x) (entries_in-append c d)
+entries_in-append (span t ∷ c) d = entries_in-append c d
+
+spans_in-append : (c d : List Item) → spans_in (c ++ d) ≡ spans_in c ++ spans_in d
+spans_in-append [] d = refl
+spans_in-append (entry key seq value ∷ c) d = spans_in-append c d
+spans_in-append (span t ∷ c) d = ap (λ x. t ∷ x) (spans_in-append c d)
+
+entries_in-entries : (ps : List Point) → entries_in (map entry_of ps) ≡ map entry_of ps
+entries_in-entries [] = refl
+entries_in-entries (p ∷ ps) = ap (λ x. entry_of p ∷ x) (entries_in-entries ps)
+
+entries_in-spans : (ts : List Tombstone) → entries_in (map span ts) ≡ []
+entries_in-spans [] = refl
+entries_in-spans (t ∷ ts) = entries_in-spans ts
+
+spans_in-entries : (ps : List Point) → spans_in (map entry_of ps) ≡ []
+spans_in-entries [] = refl
+spans_in-entries (p ∷ ps) = spans_in-entries ps
+
+spans_in-spans : (ts : List Tombstone) → spans_in (map span ts) ≡ ts
+spans_in-spans [] = refl
+spans_in-spans (t ∷ ts) = ap (λ x. t ∷ x) (spans_in-spans ts)
+
+pub entries_in-content_of : (ps : List Point) (ts : List Tombstone) → entries_in (content_of ps ts) ≡ map entry_of ps
+entries_in-content_of ps ts =
+    entries_in-append (map entry_of ps) (map span ts) ∙ (λ i. entries_in-entries ps i ++ entries_in-spans ts i) ∙ append-nil (map entry_of ps)
+
+pub spans_in-content_of : (ps : List Point) (ts : List Tombstone) → spans_in (content_of ps ts) ≡ ts
+spans_in-content_of ps ts = spans_in-append (map entry_of ps) (map span ts) ∙ (λ i. spans_in-entries ps i ++ spans_in-spans ts i)

@@ -5,12 +5,12 @@ ghost use Rattle.std.specs.List.{All};
 ghost use Rattle.std.specs.Option.{option_map};
 ghost use Rattle.xdb_key.specs.Order.{key_cmp, is_below, is_upto};
 ghost use Rattle.xdb_key.specs.Bounds.{Bounds, holds};
-ghost use Rattle.xdb_key.specs.Entries.{Tombstone};
+ghost use Rattle.xdb_key.specs.Entries.{Point, Tombstone};
 ghost use Rattle.xdb_rangedel.specs.Members.{Has, SameMembers};
 ghost use Rattle.xdb_rangedel.specs.Cover.{cover_of};
-ghost use Rattle.xdb_rangedel.specs.Pieces.{pieces, is_ordered, IsPiece};
+ghost use Rattle.xdb_rangedel.specs.Pieces.{pieces, is_ordered, IsPiece, AreFragments};
 ghost use Rattle.xdb_rangedel.specs.Clip.{parts_before, parts_from, parts_in};
-ghost use Rattle.xdb_rangedel.specs.Content.{Item, entry, span, Mark, here, mark, is_seen, newer, newest, verdict, IsImage, IsClear, entries_in, spans_in, in_pieces};
+ghost use Rattle.xdb_rangedel.specs.Content.{Item, entry, span, Mark, here, mark, is_seen, newer, newest, verdict, IsImage, IsClear, entries_in, spans_in, in_pieces, entry_of, content_of};
 ghost use Rattle.xdb_rangedel.specs.View.{restricted};
 ghost use Rattle.xdb_rangedel.specs.Layers.{IsGreatest, IsAllBelow, IsAllFrom, IsSilentAt, IsNewerAt, IsOverAt, over, IsDrawn, deleted_at};
 
@@ -45,9 +45,13 @@ pub fn limits_hide_numbers()
     ensures hidden { (c : List Item) (limit : ℕ) (k : List ℕ) → IsAllFrom limit c → newest c limit k ≡ None }
 {}
 
-/// A content that holds nothing at a key says nothing of it.
+/// A content that holds nothing at a key says nothing of it, and what it is joined to says the same.
 pub fn silent_says_nothing()
-    ensures { (c : List Item) (limit : ℕ) (k : List ℕ) → IsSilentAt k c → newest c limit k ≡ None }
+    ensures nothing { (c : List Item) (limit : ℕ) (k : List ℕ) → IsSilentAt k c → newest c limit k ≡ None }
+    ensures before { (a c : List Item) (limit : ℕ) (k : List ℕ) → IsSilentAt k c
+        → newest (c ++ a) limit k ≡ newest a limit k }
+    ensures behind { (a c : List Item) (limit : ℕ) (k : List ℕ) → IsSilentAt k c
+        → newest (a ++ c) limit k ≡ newest a limit k }
 {}
 
 /// A content has one image at a number.
@@ -130,4 +134,21 @@ pub fn pieces_lie_between_bounds()
     ensures tell { (ts : List Tombstone) → All (λ s. IsTrue (is_ordered s)) ts
         → (t : Tombstone) → Has (pieces ts) t → IsPiece ts t }
     ensures there { (ts : List Tombstone) (t : Tombstone) → IsPiece ts t → Has (pieces ts) t }
+{}
+
+/// Parts of fragments are fragments, fragments are their own pieces, and only one list of fragments
+/// has given members.
+pub fn fragments_stay()
+    ensures range { (r : Bounds) (ts : List Tombstone) → IsTrue (is_below r.lo r.hi) → AreFragments ts
+        → AreFragments (parts_in r ts) }
+    ensures before { (at : List ℕ) (ts : List Tombstone) → AreFragments ts → AreFragments (parts_before at ts) }
+    ensures from { (at : List ℕ) (ts : List Tombstone) → AreFragments ts → AreFragments (parts_from at ts) }
+    ensures themselves { (ts : List Tombstone) → AreFragments ts → SameMembers (pieces ts) ts }
+    ensures one { (xs ys : List Tombstone) → AreFragments xs → AreFragments ys → SameMembers xs ys → xs ≡ ys }
+{}
+
+/// The entries and the spans of the content that is kept as two lists are these lists.
+pub fn content_of_two_lists()
+    ensures entries { (ps : List Point) (ts : List Tombstone) → entries_in (content_of ps ts) ≡ map entry_of ps }
+    ensures spans { (ps : List Point) (ts : List Tombstone) → spans_in (content_of ps ts) ≡ ts }
 {}
