@@ -1,6 +1,6 @@
 -- Columns: strips are trimmed where an earlier strip of the same number lies, and each then writes its number.
-use Rattle.std.proofs.Common.{◌≡◌, ℕ, zero, suc, ◌+◌, max, ◌<◌, ◌≤◌, Bool, true, false, ◌&&◌, ◌||◌, cond, ltb, leb, eqb, List, [], ◌∷◌, ◌++◌, length, get_or, drop, replicate, Option, Some, None, inl, inr, ◌⊎◌, ◌↔◌, IsTrue, refl, sym, ap, ◌∙◌, subst, append_assoc, arith}
-use Rattle.std.proofs.lemmas.Bool.{cases_Bool, cases_order, cases_eq, cases_lt, and_parts, and_from, or_cases, false≢true, ltb-true, leb-true, eqb-true, eq-eqb, ne_eqb, lt-ltb, le-leb}
+use Rattle.std.proofs.Common.{◌≡◌, ℕ, ◌+◌, max, ◌<◌, ◌≤◌, Bool, true, false, cond, ltb, leb, eqb, List, [], ◌∷◌, ◌++◌, length, get_or, drop, replicate, Option, Some, None, inl, inr, ◌⊎◌, IsTrue, refl, sym, ap, ◌∙◌, subst, append_assoc, arith}
+use Rattle.std.proofs.lemmas.Bool.{cases_eq, cases_lt, and_parts, and_from, ltb-true, leb-true, eq-eqb, ne_eqb, lt-ltb, le-leb}
 use Rattle.std.proofs.lemmas.List.{append-nil, drop_more, drop_all, get_or-replicate, length-replicate}
 use Rattle.std.proofs.lemmas.List.Kept.{AllPairs-cons}
 use Rattle.std.specs.List.{All, AllPairs, filter_map, cons_option}
@@ -108,25 +108,25 @@ over-has (t ∷ ss) number reached j n s order (inr h) over e =
     elim (over-has ss t.number.0 (max t.to done) j n s (AllPairs-tail (λ x y. IsTrue (comes_first x y)) t ss order) h over e) [
       | inl there ↦ inl (cons_option-has_rest (number_over j (trim done t)) (numbers_over j (trimmed t.number.0 (max t.to done) ss)) n there)
       | inr (seqs, below) ↦ elim (cases_lt j done) [
-          | inl less ↦ let (same, early) = resumed_done t.number.0 number reached j less in inr (seqs ∙ same, early)
-          | inr more ↦
-              let at_s : s.from ≤ j = leb-true s.from j (and_parts (leb s.from j) (ltb j s.to) over).0 in
-              let starts : t.from ≤ s.from = elim (first_tells t s (All-at_Has (λ y. IsTrue (comes_first t y)) ss s (AllPairs-head (λ x y. IsTrue (comes_first x y)) t ss order) h)) [
-                | inl less ↦ absurd (omega arith)
-                | inr (same, from) ↦ from
-              ] in
-              inl (cons_option-has (number_over j (trim done t)) (numbers_over j (trimmed t.number.0 (max t.to done) ss)) n (trim_over t done j n more (omega arith) (omega arith) (sym seqs)))
-        ]
+        | inl less ↦ let (same, early) = resumed_done t.number.0 number reached j less in inr (seqs ∙ same, early)
+        | inr more ↦
+            let at_s : s.from ≤ j = leb-true s.from j (and_parts (leb s.from j) (ltb j s.to) over).0 in
+            let starts : t.from ≤ s.from = elim (first_tells t s (All-at_Has (λ y. IsTrue (comes_first t y)) ss s (AllPairs-head (λ x y. IsTrue (comes_first x y)) t ss order) h)) [
+              | inl less ↦ absurd (omega arith)
+              | inr (same, from) ↦ from
+            ] in
+            inl (cons_option-has (number_over j (trim done t)) (numbers_over j (trimmed t.number.0 (max t.to done) ss)) n (trim_over t done j n more (omega arith) (omega arith) (sym seqs)))
+      ]
     ]
 
 -- the numbers over a gap fall
 
 below_first : (t : Strip) (ss : List Strip) → InOrder (t ∷ ss) → All (λ s. s.number.0 ≤ t.number.0) ss
 below_first t ss order = All-from_Has (λ s. s.number.0 ≤ t.number.0) ss (λ s h.
-  elim (first_tells t s (All-at_Has (λ y. IsTrue (comes_first t y)) ss s (AllPairs-head (λ x y. IsTrue (comes_first x y)) t ss order) h)) [
-    | inl less ↦ omega arith
-    | inr (same, from) ↦ omega arith
-  ])
+    elim (first_tells t s (All-at_Has (λ y. IsTrue (comes_first t y)) ss s (AllPairs-head (λ x y. IsTrue (comes_first x y)) t ss order) h)) [
+      | inl less ↦ omega arith
+      | inr (same, from) ↦ omega arith
+    ])
 
 -- no number is greater than the one before, and that one only comes again behind what it reached
 over_bounded : (ss : List Strip) (number reached j n : ℕ) → InOrder ss → All (λ s. s.number.0 ≤ number) ss → Has (numbers_over j (trimmed number reached ss)) n → (n < number) ⊎ ((n ≡ number) × (reached ≤ j))
@@ -148,9 +148,9 @@ over_bounded (t ∷ ss) number reached j n order bound h =
           elim rest [
             | inl less ↦ inl (omega arith)
             | inr (same, behind) ↦ elim (cases_lt t.number.0 number) [
-                | inl less ↦ inl (omega arith)
-                | inr more ↦ let d : done ≡ reached = back (omega arith) in inr (omega arith, omega arith)
-              ]
+              | inl less ↦ inl (omega arith)
+              | inr more ↦ let d : done ≡ reached = back (omega arith) in inr (omega arith, omega arith)
+            ]
           ]
     ]
 
@@ -160,10 +160,10 @@ falling_with t done j ss (Some m) e order rest =
     let (over, same) = number_over-tells j m (trim done t) (lies_over j (trim done t)) refl e in
     let end : j < t.to = ltb-true j t.to (and_parts (leb (max t.from done) j) (ltb j t.to) over).1 in
     AllPairs-cons (λ x y. y < x) m (numbers_over j (trimmed t.number.0 (max t.to done) ss)) (All-from_Has (λ n. n < m) (numbers_over j (trimmed t.number.0 (max t.to done) ss)) (λ n h.
-      elim (over_bounded ss t.number.0 (max t.to done) j n (AllPairs-tail (λ x y. IsTrue (comes_first x y)) t ss order) (below_first t ss order) h) [
-        | inl less ↦ omega arith
-        | inr (equal, behind) ↦ absurd (omega arith)
-      ])) rest
+    elim (over_bounded ss t.number.0 (max t.to done) j n (AllPairs-tail (λ x y. IsTrue (comes_first x y)) t ss order) (below_first t ss order) h) [
+      | inl less ↦ omega arith
+      | inr (equal, behind) ↦ absurd (omega arith)
+    ])) rest
 
 over_falls : (ss : List Strip) (number reached j : ℕ) → InOrder ss → AllPairs (λ m n. n < m) (numbers_over j (trimmed number reached ss))
 over_falls [] number reached j order = λ a b d less inside. absurd (omega arith)
@@ -192,26 +192,27 @@ pub written_more : (strips : List Strip) (gaps i number reached : ℕ) (old new 
 written_more strips gaps i number reached old new s done w inside at_s is_done long writes = record {
   count = long ∙ w.count;
   rest = λ j h.
-    let left : drop i strips ≡ s ∷ drop (i + 1) strips = drop_more strips i s inside ∙ ap (λ x. x ∷ drop (i + 1) strips) (sym at_s) in
-    let ns = numbers_over j (trimmed s.number.0 (max s.to done) (drop (i + 1) strips)) in
-    let b = is_between (max s.from done) s.to j in
-    ap (λ c. c ++ ns) (writes j) ∙ append_assoc (get_or old j []) (cond b (s.number.0 ∷ []) []) ns
-    ∙ ap (λ x. get_or old j [] ++ x) (written_by b s.number.0 ns)
-    ∙ ap (λ d. get_or old j [] ++ cons_option (number_over j (trim d s)) (numbers_over j (trimmed s.number.0 (max s.to d) (drop (i + 1) strips)))) is_done
-    ∙ sym (ap (λ x. get_or old j [] ++ numbers_over j (trimmed number reached x)) left) ∙ w.rest j h;
+      let left : drop i strips ≡ s ∷ drop (i + 1) strips = drop_more strips i s inside ∙ ap (λ x. x ∷ drop (i + 1) strips) (sym at_s) in
+      let ns = numbers_over j (trimmed s.number.0 (max s.to done) (drop (i + 1) strips)) in
+      let b = is_between (max s.from done) s.to j in
+      ap (λ c. c ++ ns) (writes j) ∙ append_assoc (get_or old j []) (cond b (s.number.0 ∷ []) []) ns
+      ∙ ap (λ x. get_or old j [] ++ x) (written_by b s.number.0 ns)
+      ∙ ap (λ d. get_or old j [] ++ cons_option (number_over j (trim d s)) (numbers_over j (trimmed s.number.0 (max s.to d) (drop (i + 1) strips)))) is_done
+      ∙ sym (ap (λ x. get_or old j [] ++ numbers_over j (trimmed number reached x)) left) ∙ w.rest j h;
 }
 
 pub written_all : (strips : List Strip) (gaps i number reached : ℕ) (columns : List (List ℕ)) → InOrder strips → Written strips gaps i number reached columns → length strips ≤ i → AreColumns strips gaps columns
 written_all strips gaps i number reached columns order w past =
     let all : (j : ℕ) → j < gaps → get_or columns j [] ≡ numbers_over j (trimmed 0 0 strips) = λ j h.
-      sym (append-nil (get_or columns j [])) ∙ sym (ap (λ x. get_or columns j [] ++ numbers_over j (trimmed number reached x)) (drop_all i strips past)) ∙ w.rest j h in
+    sym (append-nil (get_or columns j [])) ∙ sym (ap (λ x. get_or columns j [] ++ numbers_over j (trimmed number reached x)) (drop_all i strips past)) ∙ w.rest j h in
     record {
       count = w.count;
-      numbers = λ j n h.
-        ((λ g. over-tells strips 0 0 j n (subst (λ c. Has c n) (all j h) g)),
-         (λ o. elim (over-has strips 0 0 j n o.0 order o.1 o.2 o.3) [
-           | inl g ↦ subst (λ c. Has c n) (sym (all j h)) g
-           | inr (e, less) ↦ absurd (omega arith)
-         ]));
+      numbers = λ j n h. (
+        (λ g. over-tells strips 0 0 j n (subst (λ c. Has c n) (all j h) g)),
+        (λ o. elim (over-has strips 0 0 j n o.0 order o.1 o.2 o.3) [
+          | inl g ↦ subst (λ c. Has c n) (sym (all j h)) g
+          | inr (e, less) ↦ absurd (omega arith)
+        ]),
+      );
       falling = λ j h. subst (λ c. AllPairs (λ m n. n < m) c) (sym (all j h)) (over_falls strips 0 0 j order);
     }

@@ -1,6 +1,6 @@
 -- What covers a key: joined, clipped and cut spans, and spans whose order is nothing.
-use Rattle.std.proofs.Common.{◌≡◌, ℕ, ◌<◌, ◌≤◌, Bool, true, false, not, ◌&&◌, cond, ltb, List, [], ◌∷◌, ◌++◌, Option, Some, None, inl, inr, ◌⊎◌, IsTrue, refl, sym, ap, ◌∙◌, subst, arith}
-use Rattle.std.proofs.lemmas.Bool.{lt-ltb, le-ltb, ltb-true, cases_lt, false≢true, true≢false, and_parts, and_from, and_left, and_right, cases_Bool, false_from_ne_true, not-true, not-false}
+use Rattle.std.proofs.Common.{◌≡◌, ℕ, ◌<◌, ◌≤◌, Bool, true, false, not, ◌&&◌, cond, ltb, List, [], ◌∷◌, ◌++◌, Option, Some, None, inl, inr, IsTrue, refl, sym, ap, ◌∙◌, subst, arith}
+use Rattle.std.proofs.lemmas.Bool.{lt-ltb, le-ltb, cases_lt, false≢true, and_parts, and_from, cases_Bool}
 use Rattle.std.specs.List.{filter_map, cons_option}
 use Rattle.xdb_key.specs.Order.{is_below, is_upto}
 use Rattle.xdb_key.specs.Bounds.{Bounds, bounds, holds, meets}
@@ -29,16 +29,16 @@ greater_assoc (Some l) None c = refl
 greater_assoc (Some l) (Some m) None = greater-none (greater (Some l) (Some m))
 greater_assoc (Some l) (Some m) (Some n) = elim (cases_lt l m) [
   | inl up ↦ elim (cases_lt m n) [
-      | inl more ↦ ap (λ o. greater o (Some n)) (greater-rises l m up) ∙ greater-rises m n more
-          ∙ sym (ap (λ o. greater (Some l) o) (greater-rises m n more) ∙ greater-rises l n (omega arith))
-      | inr less ↦ ap (λ o. greater o (Some n)) (greater-rises l m up) ∙ greater-stays m n less
-          ∙ sym (ap (λ o. greater (Some l) o) (greater-stays m n less) ∙ greater-rises l m up)
-    ]
+    | inl more ↦ ap (λ o. greater o (Some n)) (greater-rises l m up) ∙ greater-rises m n more
+        ∙ sym (ap (λ o. greater (Some l) o) (greater-rises m n more) ∙ greater-rises l n (omega arith))
+    | inr less ↦ ap (λ o. greater o (Some n)) (greater-rises l m up) ∙ greater-stays m n less
+        ∙ sym (ap (λ o. greater (Some l) o) (greater-stays m n less) ∙ greater-rises l m up)
+  ]
   | inr down ↦ elim (cases_lt m n) [
-      | inl more ↦ ap (λ o. greater o (Some n)) (greater-stays l m down) ∙ sym (ap (λ o. greater (Some l) o) (greater-rises m n more))
-      | inr less ↦ ap (λ o. greater o (Some n)) (greater-stays l m down) ∙ greater-stays l n (omega arith)
-          ∙ sym (ap (λ o. greater (Some l) o) (greater-stays m n less) ∙ greater-stays l m down)
-    ]
+    | inl more ↦ ap (λ o. greater o (Some n)) (greater-stays l m down) ∙ sym (ap (λ o. greater (Some l) o) (greater-rises m n more))
+    | inr less ↦ ap (λ o. greater o (Some n)) (greater-stays l m down) ∙ greater-stays l n (omega arith)
+        ∙ sym (ap (λ o. greater (Some l) o) (greater-stays m n less) ∙ greater-stays l m down)
+  ]
 ]
 
 pub cover_of-append : (xs ys : List Tombstone) (k : List ℕ) (limit : ℕ) → cover_of (xs ++ ys) k limit ≡ greater (cover_of xs k limit) (cover_of ys k limit)
@@ -63,27 +63,37 @@ covered_missed t ts k limit None miss c = λ u h g. elim h [
   | inl e ↦ false≢true (sym miss ∙ ap (λ x. covers_at k limit x) e ∙ g)
   | inr q ↦ c u q g
 ]
-covered_missed t ts k limit (Some n) miss c =
-    ((c.0.0, inr c.0.1, c.0.2, c.0.3), λ u h g. elim h [
-      | inl e ↦ absurd (false≢true (sym miss ∙ ap (λ x. covers_at k limit x) e ∙ g))
-      | inr q ↦ c.1 u q g
-    ])
+covered_missed t ts k limit (Some n) miss c = (
+  (c.0.0, inr c.0.1, c.0.2, c.0.3),
+  λ u h g. elim h [
+    | inl e ↦ absurd (false≢true (sym miss ∙ ap (λ x. covers_at k limit x) e ∙ g))
+    | inr q ↦ c.1 u q g
+  ],
+)
 
 covered_hit : (t : Tombstone) (ts : List Tombstone) (k : List ℕ) (limit : ℕ) (o : Option ℕ) → covers_at k limit t ≡ true → Covered ts k limit o → Covered (t ∷ ts) k limit (greater (Some t.seq) o)
-covered_hit t ts k limit None hit c =
-    ((t, inl refl, hit, refl), λ u h g. elim h [
-      | inl e ↦ let same : t.seq ≡ u.seq = ap (λ x. x.seq) e in omega arith
-      | inr q ↦ absurd (c u q g)
-    ])
+covered_hit t ts k limit None hit c = (
+  (t, inl refl, hit, refl),
+  λ u h g. elim h [
+    | inl e ↦ let same : t.seq ≡ u.seq = ap (λ x. x.seq) e in omega arith
+    | inr q ↦ absurd (c u q g)
+  ],
+)
 covered_hit t ts k limit (Some n) hit c = elim (cases_lt t.seq n) [
-  | inl up ↦ subst (λ o. Covered (t ∷ ts) k limit o) (sym (greater-rises t.seq n up)) ((c.0.0, inr c.0.1, c.0.2, c.0.3), λ u h g. elim h [
+  | inl up ↦ subst (λ o. Covered (t ∷ ts) k limit o) (sym (greater-rises t.seq n up)) (
+    (c.0.0, inr c.0.1, c.0.2, c.0.3),
+    λ u h g. elim h [
       | inl e ↦ let same : t.seq ≡ u.seq = ap (λ x. x.seq) e in omega arith
       | inr q ↦ c.1 u q g
-    ])
-  | inr down ↦ subst (λ o. Covered (t ∷ ts) k limit o) (sym (greater-stays t.seq n down)) ((t, inl refl, hit, refl), λ u h g. elim h [
+    ],
+  )
+  | inr down ↦ subst (λ o. Covered (t ∷ ts) k limit o) (sym (greater-stays t.seq n down)) (
+    (t, inl refl, hit, refl),
+    λ u h g. elim h [
       | inl e ↦ let same : t.seq ≡ u.seq = ap (λ x. x.seq) e in omega arith
       | inr q ↦ let low : u.seq ≤ n = c.1 u q g in omega arith
-    ])
+    ],
+  )
 ]
 
 cover_by-hit : (t : Tombstone) (k : List ℕ) (limit : ℕ) → covers_at k limit t ≡ true → cover_by t k limit ≡ Some t.seq
@@ -255,7 +265,7 @@ cover_of-parts_from at ts k limit = cover_of-filter_map (part_from at) (is_upto 
 
 -- one of two pieces holds what the span holds
 cut_held : (lo below_at upto_at below_hi b : Bool) (n : ℕ) → (below_at ≡ true → below_hi ≡ true) → (upto_at ≡ true → lo ≡ true) → upto_at ≡ not below_at
-  → greater (cond ((lo && below_at) && b) (Some n) None) (greater (cond ((upto_at && below_hi) && b) (Some n) None) None) ≡ cond ((lo && below_hi) && b) (Some n) None
+    → greater (cond ((lo && below_at) && b) (Some n) None) (greater (cond ((upto_at && below_hi) && b) (Some n) None) None) ≡ cond ((lo && below_hi) && b) (Some n) None
 cut_held lo true upto_at below_hi b n h g e =
     ap (λ u. greater (cond ((lo && true) && b) (Some n) None) (greater (cond ((u && below_hi) && b) (Some n) None) None)) e
     ∙ greater-none (cond ((lo && true) && b) (Some n) None) ∙ ap (λ u. cond ((lo && u) && b) (Some n) None) (sym (h refl))
@@ -269,7 +279,7 @@ cover_of-cut_span at t k limit = elim (cases_Bool (splits at t)) [
       let (after, before) = and_parts (is_below t.range.lo at) (is_below at t.range.hi) s in
       ap (λ b. cover_of (cond b (tombstone (bounds t.range.lo at) t.seq ∷ tombstone (bounds at t.range.hi) t.seq ∷ []) (t ∷ [])) k limit) s
       ∙ cut_held (is_upto t.range.lo k) (is_below k at) (is_upto at k) (is_below k t.range.hi) (ltb t.seq limit) t.seq (λ h. below_trans k at t.range.hi h before)
-        (λ h. upto_trans t.range.lo at k (upto_from_below t.range.lo at after) h) (upto-not_below at k)
+      (λ h. upto_trans t.range.lo at k (upto_from_below t.range.lo at after) h) (upto-not_below at k)
   | inr n ↦ ap (λ b. cover_of (cond b (tombstone (bounds t.range.lo at) t.seq ∷ tombstone (bounds at t.range.hi) t.seq ∷ []) (t ∷ [])) k limit) n ∙ greater-none (cover_by t k limit)
 ]
 

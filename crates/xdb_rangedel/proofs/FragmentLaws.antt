@@ -1,6 +1,6 @@
 -- Parts of fragments are fragments.
-use Rattle.std.proofs.Common.{◌≡◌, ℕ, zero, suc, ◌+◌, ◌<◌, ◌≤◌, Bool, true, false, ◌&&◌, ◌||◌, cond, ltb, List, [], ◌∷◌, length, get_or, Option, Some, None, inl, inr, ◌⊎◌, IsTrue, refl, sym, ap, ◌∙◌, subst, arith}
-use Rattle.std.proofs.lemmas.Bool.{cases_Bool, and_parts, and_from, or_left, or_right, false≢true, lt-ltb}
+use Rattle.std.proofs.Common.{◌≡◌, ℕ, suc, ◌<◌, Bool, true, false, ◌&&◌, cond, ltb, List, [], ◌∷◌, get_or, Option, Some, None, inl, inr, IsTrue, refl, sym, ap, ◌∙◌, arith}
+use Rattle.std.proofs.lemmas.Bool.{cases_Bool, and_parts, and_from, or_left, or_right, lt-ltb}
 use Rattle.std.proofs.lemmas.List.Elements.{All-nil, All-cons, All-tail, All-contains}
 use Rattle.std.proofs.lemmas.List.Kept.{AllPairs-cons}
 use Rattle.std.specs.List.{All, AllPairs, filter_map, cons_option}
@@ -8,7 +8,7 @@ use Rattle.std.specs.Ordering.{eq_by_cmp}
 use Rattle.xdb_key.specs.Order.{key_cmp, is_below, is_upto}
 use Rattle.xdb_key.specs.Bounds.{Bounds, bounds, meets}
 use Rattle.xdb_key.specs.Entries.{Tombstone, tombstone}
-use Rattle.xdb_key.proofs.OrderLaws.{upto-not_below, upto-itself, upto_from_below, below_trans, below_upto, upto_below, upto_trans}
+use Rattle.xdb_key.proofs.OrderLaws.{upto-itself, upto_from_below, upto_trans}
 use Rattle.xdb_rangedel.specs.Members.{Has}
 use Rattle.xdb_rangedel.specs.Pieces.{precedes, is_ordered, AreFragments}
 use Rattle.xdb_rangedel.specs.Clip.{later_of, earlier_of, starting_from, ending_by, part_before, part_from, part_in, parts_before, parts_from, parts_in}
@@ -55,8 +55,8 @@ module _ (f : Tombstone → Option Tombstone) (order : (s u : Tombstone) → is_
   filtered_with t ts (Some u) e fragments rest = record {
     ordered = All-cons (λ x. IsTrue (is_ordered x)) u (filter_map f ts) (order t u (fragments.ordered 0 t (omega arith)) e) rest.ordered;
     apart = AllPairs-cons (λ x y. IsTrue (precedes x y)) u (filter_map f ts) (All-from_Has (λ y. IsTrue (precedes u y)) (filter_map f ts) (λ v h.
-      let from = Has-from_filter_map f ts v h in
-      apart t from.0 u v (All-at_Has (λ y. IsTrue (precedes t y)) ts from.0 (AllPairs-head (λ x y. IsTrue (precedes x y)) t ts fragments.apart) from.1) e from.2)) rest.apart;
+        let from = Has-from_filter_map f ts v h in
+        apart t from.0 u v (All-at_Has (λ y. IsTrue (precedes t y)) ts from.0 (AllPairs-head (λ x y. IsTrue (precedes x y)) t ts fragments.apart) from.1) e from.2)) rest.apart;
   }
 
   pub AreFragments-filter_map : (ts : List Tombstone) → AreFragments ts → AreFragments (filter_map f ts)
@@ -104,32 +104,32 @@ along_both s t u v e g h = sym (λ i. precedes (e i) (g i)) ∙ h
 
 pub AreFragments-parts_before : (at : List ℕ) (ts : List Tombstone) → AreFragments ts → AreFragments (parts_before at ts)
 AreFragments-parts_before at = AreFragments-filter_map (part_before at)
-  (λ s u o e.
+    (λ s u o e.
     let (started, same) = kept_if (is_below s.range.lo at) (ending_by at s) u e in
     ap is_ordered (sym same) ∙ below-earlier s.range.lo at s.range.hi started o)
-  (λ s t u v before e g.
+    (λ s t u v before e g.
     along_both (ending_by at s) (ending_by at t) u v (kept_if (is_below s.range.lo at) (ending_by at s) u e).1 (kept_if (is_below t.range.lo at) (ending_by at t) v g).1
-      (apart_by (λ r. bounds r.lo (earlier_of at r.hi)) s t (λ a b apart. upto_trans (earlier_of at a.hi) a.hi b.lo (earlier-upto at a.hi) apart) before))
+    (apart_by (λ r. bounds r.lo (earlier_of at r.hi)) s t (λ a b apart. upto_trans (earlier_of at a.hi) a.hi b.lo (earlier-upto at a.hi) apart) before))
 
 pub AreFragments-parts_from : (at : List ℕ) (ts : List Tombstone) → AreFragments ts → AreFragments (parts_from at ts)
 AreFragments-parts_from at = AreFragments-filter_map (part_from at)
-  (λ s u o e.
+    (λ s u o e.
     let (open_, same) = kept_if (is_below at s.range.hi) (starting_from at s) u e in
     ap is_ordered (sym same) ∙ later-below s.range.hi at s.range.lo open_ o)
-  (λ s t u v before e g.
+    (λ s t u v before e g.
     along_both (starting_from at s) (starting_from at t) u v (kept_if (is_below at s.range.hi) (starting_from at s) u e).1 (kept_if (is_below at t.range.hi) (starting_from at t) v g).1
-      (apart_by (λ r. bounds (later_of at r.lo) r.hi) s t (λ a b apart. upto_trans a.hi b.lo (later_of at b.lo) apart (upto-later at b.lo)) before))
+    (apart_by (λ r. bounds (later_of at r.lo) r.hi) s t (λ a b apart. upto_trans a.hi b.lo (later_of at b.lo) apart (upto-later at b.lo)) before))
 
 pub AreFragments-parts_in : (r : Bounds) (ts : List Tombstone) → is_below r.lo r.hi ≡ true → AreFragments ts → AreFragments (parts_in r ts)
 AreFragments-parts_in r ts sane = AreFragments-filter_map (part_in r)
-  (λ s u o e.
+    (λ s u o e.
     let (met, same) = kept_if (meets s.range r) (starting_from r.lo (ending_by r.hi s)) u e in
     let (started, open_) = and_parts (is_below s.range.lo r.hi) (is_below r.lo s.range.hi) met in
     ap is_ordered (sym same)
     ∙ below-earlier (later_of r.lo s.range.lo) r.hi s.range.hi (later-below r.hi r.lo s.range.lo sane started) (later-below s.range.hi r.lo s.range.lo open_ o))
-  (λ s t u v before e g.
+    (λ s t u v before e g.
     let part = λ (x : Tombstone). starting_from r.lo (ending_by r.hi x) in
     along_both (part s) (part t) u v (kept_if (meets s.range r) (part s) u e).1 (kept_if (meets t.range r) (part t) v g).1
-      (apart_by (λ x. bounds (later_of r.lo x.lo) (earlier_of r.hi x.hi)) s t
-        (λ a b apart. upto_trans (earlier_of r.hi a.hi) a.hi (later_of r.lo b.lo) (earlier-upto r.hi a.hi) (upto_trans a.hi b.lo (later_of r.lo b.lo) apart (upto-later r.lo b.lo))) before))
-  ts
+    (apart_by (λ x. bounds (later_of r.lo x.lo) (earlier_of r.hi x.hi)) s t
+    (λ a b apart. upto_trans (earlier_of r.hi a.hi) a.hi (later_of r.lo b.lo) (earlier-upto r.hi a.hi) (upto_trans a.hi b.lo (later_of r.lo b.lo) apart (upto-later r.lo b.lo))) before))
+    ts

@@ -1,17 +1,16 @@
 -- What is laid over the gaps is fragments, and they are the pieces of the spans.
-use Rattle.std.proofs.Common.{◌≡◌, ℕ, zero, suc, ◌+◌, ◌-◌, ◌<◌, ◌≤◌, Bool, true, false, ◌&&◌, List, [], ◌∷◌, ◌++◌, length, get_or, map, inl, inr, ◌⊎◌, ◌↔◌, IsTrue, refl, sym, ap, ◌∙◌, subst, arith}
-use Rattle.std.proofs.lemmas.Bool.{cases_Bool, cases_order, cases_lt, and_parts, and_from, false≢true, false_from_ne_true}
+use Rattle.std.proofs.Common.{◌≡◌, ℕ, zero, suc, ◌-◌, ◌<◌, ◌≤◌, true, List, [], ◌∷◌, ◌++◌, length, get_or, map, inl, inr, IsTrue, refl, sym, ap, ◌∙◌, subst, arith}
+use Rattle.std.proofs.lemmas.Bool.{cases_order, and_parts, and_from, false≢true, false_from_ne_true}
 use Rattle.std.proofs.lemmas.List.{get_or_default}
-use Rattle.std.proofs.lemmas.List.Elements.{All-nil}
 use Rattle.std.proofs.lemmas.List.Kept.{AllPairs-cons}
 use Rattle.std.specs.List.{All, AllPairs}
 use Rattle.xdb_key.specs.Order.{is_below, is_upto}
-use Rattle.xdb_key.specs.Bounds.{Bounds, bounds, holds, covers}
+use Rattle.xdb_key.specs.Bounds.{Bounds, bounds, holds}
 use Rattle.xdb_key.specs.Entries.{Tombstone, tombstone}
-use Rattle.xdb_key.proofs.OrderLaws.{upto-itself, below-itself, upto-not_below, upto_from_below, below_trans, below_upto, upto_below, upto_trans}
+use Rattle.xdb_key.proofs.OrderLaws.{upto-itself, below-itself, upto_from_below, below_trans, below_upto}
 use Rattle.xdb_rangedel.specs.Members.{Has, SameMembers}
 use Rattle.xdb_rangedel.specs.Pieces.{ends, pieces, splits, is_ordered, precedes, AreFragments, IsPiece}
-use Rattle.xdb_rangedel.specs.Sweep.{IsRising, strip_of, lies_over, IsOver, AreColumns, over_gap, laid}
+use Rattle.xdb_rangedel.specs.Sweep.{IsRising, strip_of, lies_over, AreColumns, over_gap, laid}
 use Rattle.xdb_rangedel.specs.declared.sweep.Strip.{Strip}
 use Rattle.xdb_rangedel.proofs.MemberLaws.{Has-append_left, Has-append_right, Has-append_cases, Has-map, Has-from_map, Has-get_or, Contains-from_Has}
 use Rattle.xdb_rangedel.proofs.FragmentLaws.{All-from_Has, All-at_Has, AllPairs-head, AllPairs-tail, AreFragments-nil, precedes_same, precedes_apart}
@@ -61,7 +60,7 @@ laid_has bs columns zero j n less has = absurd (omega arith)
 laid_has bs columns (suc m) j n less has = elim (cases_order j m) [
   | inl e ↦ subst (λ i. Has (laid bs columns (suc m)) (gap_span bs i n)) (sym e)
       (Has-append_right (laid bs columns m) (over_gap (get_or bs m []) (get_or bs (suc m) []) (get_or columns m [])) (gap_span bs m n)
-        (Has-map (tombstone (bounds (get_or bs m []) (get_or bs (suc m) []))) (get_or columns m []) n (subst (λ i. Has (get_or columns i []) n) e has)))
+      (Has-map (tombstone (bounds (get_or bs m []) (get_or bs (suc m) []))) (get_or columns m []) n (subst (λ i. Has (get_or columns i []) n) e has)))
   | inr (inl below) ↦ Has-append_left (laid bs columns m) (over_gap (get_or bs m []) (get_or bs (suc m) []) (get_or columns m [])) (gap_span bs j n) (laid_has bs columns m j n below has)
   | inr (inr more) ↦ absurd (omega arith)
 ]
@@ -80,9 +79,9 @@ gap_apart : (r : Bounds) (ns : List ℕ) → AllPairs (λ m n. n < m) ns → All
 gap_apart r [] h = λ i j d less inside. absurd (omega arith)
 gap_apart r (n ∷ ns) h =
     AllPairs-cons (λ s t. IsTrue (precedes s t)) (tombstone r n) (map (tombstone r) ns) (All-from_Has (λ t. IsTrue (precedes (tombstone r n) t)) (map (tombstone r) ns) (λ t g.
-      let (m, has, e) = Has-from_map (tombstone r) ns t g in
-      subst (λ x. IsTrue (precedes (tombstone r n) x)) e (precedes_same (tombstone r n) (tombstone r m) refl (All-at_Has (λ y. y < n) ns m (AllPairs-head (λ x y. y < x) n ns h) has))))
-      (gap_apart r ns (AllPairs-tail (λ x y. y < x) n ns h))
+    let (m, has, e) = Has-from_map (tombstone r) ns t g in
+    subst (λ x. IsTrue (precedes (tombstone r n) x)) e (precedes_same (tombstone r n) (tombstone r m) refl (All-at_Has (λ y. y < n) ns m (AllPairs-head (λ x y. y < x) n ns h) has))))
+    (gap_apart r ns (AllPairs-tail (λ x y. y < x) n ns h))
 
 pub laid_fragments : (bs columns : List (List ℕ)) (m : ℕ) → IsRising bs → m ≤ length bs - 1 → ((j : ℕ) → j < m → AllPairs (λ a b. b < a) (get_or columns j [])) → AreFragments (laid bs columns m)
 laid_fragments bs columns zero rising inside falling = AreFragments-nil
@@ -96,8 +95,8 @@ laid_fragments bs columns (suc m) rising inside falling =
         | inr g ↦ let (n, has, e) = Has-from_map (tombstone (bounds (get_or bs m []) (get_or bs (suc m) []))) (get_or columns m []) t g in ap is_ordered (sym e) ∙ step
       ]);
       apart = AllPairs-append (λ s t. IsTrue (precedes s t)) (laid bs columns m) gap before.apart
-        (gap_apart (bounds (get_or bs m []) (get_or bs (suc m) [])) (get_or columns m []) (falling m (omega arith)))
-        (λ s t a b.
+          (gap_apart (bounds (get_or bs m []) (get_or bs (suc m) [])) (get_or columns m []) (falling m (omega arith)))
+          (λ s t a b.
           let (j, less, n, has, e) = laid_tells bs columns m s a in
           let (k, there, f) = Has-from_map (tombstone (bounds (get_or bs m []) (get_or bs (suc m) []))) (get_or columns m []) t b in
           precedes_apart s t (sym (λ i. is_upto (e i).range.hi (f i).range.lo) ∙ upto_places bs (suc j) m rising (omega arith) (omega arith)));
@@ -139,8 +138,8 @@ module _ (spans : List Tombstone) (bs columns : List (List ℕ)) (strips : List 
         start = (same_ends lo).0 (Has-get_or bs j [] (omega arith));
         end = (same_ends hi).0 (Has-get_or bs (suc j) [] inside);
         whole = λ at g. false_from_ne_true (splits at (gap_span bs j n)) (λ s.
-          let (after, before) = and_parts (is_below lo at) (is_below at hi) s in
-          gap_whole j inside at g after before);
+            let (after, before) = and_parts (is_below lo at) (is_below at hi) s in
+            gap_whole j inside at g after before);
       }
 
   piece_laid : (m : ℕ) (t : Tombstone) → length bs ≤ suc m → IsPiece spans t → Has (laid bs columns m) t
@@ -166,11 +165,12 @@ module _ (spans : List Tombstone) (bs columns : List (List ℕ)) (strips : List 
       subst (λ x. Has (laid bs columns m) x) (λ i. tombstone (bounds (lo i) (his i)) (seqs i)) (laid_has bs columns m j s.seq (omega arith) there)
 
   pub laid_pieces : SameMembers (laid bs columns (length bs - 1)) (pieces spans)
-  laid_pieces = λ t.
-      ((λ h.
-         let (j, less, n, has, e) = laid_tells bs columns (length bs - 1) t h in
-         pieces-has spans t (subst (IsPiece spans) e (laid_piece j n (omega arith) has))),
-       (λ h. piece_laid (length bs - 1) t (omega arith) (pieces-tell spans t (λ s g. All-at_Has (λ x. IsTrue (is_ordered x)) spans s ordered g) h)))
+  laid_pieces = λ t. (
+    (λ h.
+        let (j, less, n, has, e) = laid_tells bs columns (length bs - 1) t h in
+        pieces-has spans t (subst (IsPiece spans) e (laid_piece j n (omega arith) has))),
+    (λ h. piece_laid (length bs - 1) t (omega arith) (pieces-tell spans t (λ s g. All-at_Has (λ x. IsTrue (is_ordered x)) spans s ordered g) h)),
+  )
 
   pub laid_over_all : AreFragments (laid bs columns (length bs - 1))
   laid_over_all = laid_fragments bs columns (length bs - 1) rising (omega arith) (λ j h. are.falling j (omega arith))

@@ -1,9 +1,9 @@
 -- Contents over one another: the verdict is the upper's, unless it says nothing.
-use Rattle.std.proofs.Common.{◌≡◌, ℕ, ◌+◌, ◌*◌, ◌<◌, ◌≤◌, Bool, true, false, List, ◌++◌, Option, Some, None, inl, inr, ◌⊎◌, IsTrue, refl, sym, ap, ◌∙◌, subst, arith}
+use Rattle.std.proofs.Common.{◌≡◌, ℕ, ◌+◌, ◌*◌, ◌<◌, ◌≤◌, true, List, ◌++◌, Option, Some, None, inl, inr, refl, sym, ap, ◌∙◌, subst, arith}
 use Rattle.std.proofs.lemmas.Bool.{cases_lt}
 use Rattle.xdb_rangedel.specs.Members.{Has}
-use Rattle.xdb_rangedel.specs.Content.{Item, entry, span, Verdict, found, deleted, nothing, Mark, seq_of, here, rank, said, verdict_by, mark, newer, newest, said_by, verdict, IsClear}
-use Rattle.xdb_rangedel.specs.Layers.{IsNewerAt, IsOverAt, over, IsDrawn, IsGreatest, IsSilentAt}
+use Rattle.xdb_rangedel.specs.Content.{Item, entry, span, Verdict, found, deleted, nothing, Mark, seq_of, here, rank, said, verdict_by, newer, newest, said_by, verdict, IsClear}
+use Rattle.xdb_rangedel.specs.Layers.{IsNewerAt, IsOverAt, over, IsDrawn, IsSilentAt}
 use Rattle.xdb_rangedel.proofs.NewestLaws.{newer-none, newer-rises, newer-stays, newest-append, Decided, decided, newest_silent, seen-here, same_key-tells, same_key-itself, verdict_by-tells}
 
 rank-near : (i : Item) → (2 * seq_of i ≤ rank i) × (rank i ≤ 2 * seq_of i + 1)
@@ -14,11 +14,11 @@ rank-near (span t) = (omega arith, omega arith)
 pub newer-over : (k : List ℕ) (upper lower : List Item) → IsNewerAt k upper lower → IsOverAt k upper lower
 newer-over k upper lower h = record {
   not_below = λ i j p q a b.
-    let low : seq_of j < seq_of i = h i j p q a b in
-    omega (arith, (rank-near i).0, (rank-near j).1);
+      let low : seq_of j < seq_of i = h i j p q a b in
+      omega (arith, (rank-near i).0, (rank-near j).1);
   tied = λ i j p q a b e.
-    let low : seq_of j < seq_of i = h i j p q a b in
-    absurd (omega (arith, (rank-near i).0, (rank-near j).1));
+      let low : seq_of j < seq_of i = h i j p q a b in
+      absurd (omega (arith, (rank-near i).0, (rank-near j).1));
 }
 
 over-nothing : (v : Verdict) → over v nothing ≡ v

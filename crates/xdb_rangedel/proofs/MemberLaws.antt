@@ -1,5 +1,5 @@
 -- What joined, mapped and filtered lists hold.
-use Rattle.std.proofs.Common.{◌≡◌, ℕ, ◌+◌, ◌<◌, zero, suc, List, [], ◌∷◌, ◌++◌, length, get_or, map, Option, Some, None, inl, inr, ◌⊎◌, refl, sym, ap, ◌∙◌, subst, arith}
+use Rattle.std.proofs.Common.{◌≡◌, ℕ, ◌<◌, zero, suc, List, [], ◌∷◌, ◌++◌, length, get_or, map, Option, Some, None, inl, inr, ◌⊎◌, refl, ap, arith}
 use Rattle.std.specs.List.{filter_map, cons_option, Contains}
 use Rattle.xdb_rangedel.specs.Members.{Has}
 

@@ -1,7 +1,7 @@
 -- The newest mark: joined contents, the greatest item, and contents whose order is nothing.
-use Rattle.std.proofs.Common.{◌≡◌, ℕ, ◌+◌, ◌*◌, ◌<◌, ◌≤◌, Bool, true, false, ◌&&◌, cond, ltb, List, [], ◌∷◌, ◌++◌, Option, Some, None, inl, inr, ◌⊎◌, ◌↔◌, IsTrue, refl, sym, ap, ◌∙◌, subst, arith}
-use Rattle.std.proofs.lemmas.Bool.{lt-ltb, le-ltb, ltb-true, cases_lt, false≢true, true≢false, and_parts, and_from, and_left, and_right, false_from_ne_true, cases_Bool}
-use Rattle.std.specs.FinMap.{FinMap, get, same_map}
+use Rattle.std.proofs.Common.{◌≡◌, ℕ, ◌<◌, ◌≤◌, true, false, ◌&&◌, cond, ltb, List, [], ◌∷◌, ◌++◌, Option, Some, None, inl, inr, IsTrue, refl, sym, ap, ◌∙◌, subst, arith}
+use Rattle.std.proofs.lemmas.Bool.{lt-ltb, le-ltb, ltb-true, cases_lt, false≢true, and_parts, and_left, and_right, false_from_ne_true, cases_Bool}
+use Rattle.std.specs.FinMap.{FinMap, same_map}
 use Rattle.xdb_key.specs.Order.{key_cmp}
 use Rattle.xdb_key.proofs.OrderLaws.{key_exact, key_total}
 use Rattle.std.specs.Ordering.{is_eq}
@@ -9,7 +9,7 @@ use Rattle.std.specs.Cmp.{tied_itself}
 use Rattle.std.specs.declared.cmp.Ordering.{Ordering}
 use Rattle.std.specs.declared.cmp.Ordering.TheVariants.{Less, Equal, Greater}
 use Rattle.xdb_rangedel.specs.Members.{Has, SameMembers}
-use Rattle.xdb_rangedel.specs.Content.{Item, entry, span, Verdict, found, deleted, nothing, Mark, seq_of, same_key, here, rank, said, verdict_by, mark, is_seen, mark_at, newer, newest, said_by, verdict, value_of, IsImage, IsClear}
+use Rattle.xdb_rangedel.specs.Content.{Item, entry, span, Mark, seq_of, same_key, here, rank, said, verdict_by, mark, is_seen, mark_at, newer, newest, IsImage, IsClear}
 use Rattle.xdb_rangedel.specs.Layers.{IsGreatest, IsAllBelow, IsAllFrom, IsSilentAt}
 
 -- two marks
@@ -30,16 +30,16 @@ newer_assoc (Some l) None c = refl
 newer_assoc (Some l) (Some m) None = newer-none (newer (Some l) (Some m))
 newer_assoc (Some l) (Some m) (Some n) = elim (cases_lt l.place m.place) [
   | inl up ↦ elim (cases_lt m.place n.place) [
-      | inl more ↦ ap (λ o. newer o (Some n)) (newer-rises l m up) ∙ newer-rises m n more
-          ∙ sym (ap (λ o. newer (Some l) o) (newer-rises m n more) ∙ newer-rises l n (omega arith))
-      | inr less ↦ ap (λ o. newer o (Some n)) (newer-rises l m up) ∙ newer-stays m n less
-          ∙ sym (ap (λ o. newer (Some l) o) (newer-stays m n less) ∙ newer-rises l m up)
-    ]
+    | inl more ↦ ap (λ o. newer o (Some n)) (newer-rises l m up) ∙ newer-rises m n more
+        ∙ sym (ap (λ o. newer (Some l) o) (newer-rises m n more) ∙ newer-rises l n (omega arith))
+    | inr less ↦ ap (λ o. newer o (Some n)) (newer-rises l m up) ∙ newer-stays m n less
+        ∙ sym (ap (λ o. newer (Some l) o) (newer-stays m n less) ∙ newer-rises l m up)
+  ]
   | inr down ↦ elim (cases_lt m.place n.place) [
-      | inl more ↦ ap (λ o. newer o (Some n)) (newer-stays l m down) ∙ sym (ap (λ o. newer (Some l) o) (newer-rises m n more))
-      | inr less ↦ ap (λ o. newer o (Some n)) (newer-stays l m down) ∙ newer-stays l n (omega arith)
-          ∙ sym (ap (λ o. newer (Some l) o) (newer-stays m n less) ∙ newer-stays l m down)
-    ]
+    | inl more ↦ ap (λ o. newer o (Some n)) (newer-stays l m down) ∙ sym (ap (λ o. newer (Some l) o) (newer-rises m n more))
+    | inr less ↦ ap (λ o. newer o (Some n)) (newer-stays l m down) ∙ newer-stays l n (omega arith)
+        ∙ sym (ap (λ o. newer (Some l) o) (newer-stays m n less) ∙ newer-stays l m down)
+  ]
 ]
 
 -- joined contents
@@ -75,45 +75,59 @@ decided_unseen i c limit k None not_seen d = λ j h s. elim h [
   | inl e ↦ false≢true (sym not_seen ∙ ap (λ x. is_seen limit k x) e ∙ s)
   | inr g ↦ d j g s
 ]
-decided_unseen i c limit k (Some m) not_seen (j, g, e) =
-    (j, record {
-      member = inr g.member;
-      seen = g.seen;
-      highest = λ x h s. elim h [
-        | inl p ↦ absurd (false≢true (sym not_seen ∙ ap (λ y. is_seen limit k y) p ∙ s))
-        | inr q ↦ g.highest x q s
-      ];
-    }, e)
+decided_unseen i c limit k (Some m) not_seen (j, g, e) = (
+  j,
+  record {
+    member = inr g.member;
+    seen = g.seen;
+    highest = λ x h s. elim h [
+      | inl p ↦ absurd (false≢true (sym not_seen ∙ ap (λ y. is_seen limit k y) p ∙ s))
+      | inr q ↦ g.highest x q s
+    ];
+  },
+  e,
+)
 
 decided_seen : (i : Item) (c : List Item) (limit : ℕ) (k : List ℕ) (o : Option Mark) → is_seen limit k i ≡ true → Decided c limit k o → Decided (i ∷ c) limit k (newer (Some (mark i)) o)
-decided_seen i c limit k None s d =
-    (i, record {
-      member = inl refl;
-      seen = s;
-      highest = λ x h t. elim h [
-        | inl p ↦ let e : rank i ≡ rank x = ap rank p in omega arith
-        | inr q ↦ absurd (d x q t)
-      ];
-    }, refl)
+decided_seen i c limit k None s d = (
+  i,
+  record {
+    member = inl refl;
+    seen = s;
+    highest = λ x h t. elim h [
+      | inl p ↦ let e : rank i ≡ rank x = ap rank p in omega arith
+      | inr q ↦ absurd (d x q t)
+    ];
+  },
+  refl,
+)
 decided_seen i c limit k (Some m) s (j, g, e) =
     let places : rank j ≡ m.place = ap (λ x. x.place) e in
     elim (cases_lt (rank i) m.place) [
-      | inl up ↦ subst (λ o. Decided (i ∷ c) limit k o) (sym (newer-rises (mark i) m up)) (j, record {
+      | inl up ↦ subst (λ o. Decided (i ∷ c) limit k o) (sym (newer-rises (mark i) m up)) (
+        j,
+        record {
           member = inr g.member;
           seen = g.seen;
           highest = λ x h t. elim h [
             | inl p ↦ let r : rank i ≡ rank x = ap rank p in omega arith
             | inr q ↦ g.highest x q t
           ];
-        }, e)
-      | inr down ↦ subst (λ o. Decided (i ∷ c) limit k o) (sym (newer-stays (mark i) m down)) (i, record {
+        },
+        e,
+      )
+      | inr down ↦ subst (λ o. Decided (i ∷ c) limit k o) (sym (newer-stays (mark i) m down)) (
+        i,
+        record {
           member = inl refl;
           seen = s;
           highest = λ x h t. elim h [
             | inl p ↦ let r : rank i ≡ rank x = ap rank p in omega arith
             | inr q ↦ let r : rank x ≤ rank j = g.highest x q t in omega arith
           ];
-        }, refl)
+        },
+        refl,
+      )
     ]
 
 pub decided : (c : List Item) (limit : ℕ) (k : List ℕ) → Decided c limit k (newest c limit k)

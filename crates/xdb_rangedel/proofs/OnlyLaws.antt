@@ -1,11 +1,10 @@
 -- Fragments are their own pieces, and one list of fragments alone has given members.
-use Rattle.std.proofs.Common.{◌≡◌, ℕ, zero, suc, ◌+◌, ◌<◌, Bool, true, false, not, ◌&&◌, List, [], ◌∷◌, length, get_or, inl, inr, ◌⊎◌, IsTrue, refl, sym, ap, ◌∙◌, subst, arith}
+use Rattle.std.proofs.Common.{◌≡◌, ℕ, true, false, not, List, [], ◌∷◌, get_or, inl, inr, ◌⊎◌, IsTrue, refl, sym, ap, ◌∙◌, subst, arith}
 use Rattle.std.proofs.lemmas.Bool.{cases_Bool, cases_order, and_parts, and_from, and_left, and_right, false≢true, false_from_ne_true}
 use Rattle.std.proofs.lemmas.List.{get_or_default}
 use Rattle.xdb_key.specs.Order.{is_below, is_upto}
-use Rattle.xdb_key.specs.Bounds.{Bounds, covers}
 use Rattle.xdb_key.specs.Entries.{Tombstone}
-use Rattle.xdb_key.proofs.OrderLaws.{upto-itself, below-itself, upto-not_below, upto_from_below, upto_trans, upto_antisymm, below_trans, below_upto, upto_below}
+use Rattle.xdb_key.proofs.OrderLaws.{upto-itself, below-itself, upto-not_below, upto_from_below, upto_trans, upto_antisymm, below_upto, upto_below}
 use Rattle.xdb_rangedel.specs.Members.{Has, SameMembers}
 use Rattle.xdb_rangedel.specs.Pieces.{ends, splits, pieces, precedes, is_ordered, AreFragments, IsPiece}
 use Rattle.xdb_rangedel.proofs.MemberLaws.{Contains-from_Has}
@@ -33,13 +32,13 @@ related ts s r f a b =
     elim (cases_order i j) [
       | inl same ↦ inl (ap (λ x. x.range) (sym e ∙ ap (λ n. get_or ts n s) same ∙ gs))
       | inr (inl less) ↦ elim (precedes_tells s r (sym (λ x. precedes (er x) (g x)) ∙ f.apart i j r less at_j)) [
-          | inl (ranges, number) ↦ inl ranges
-          | inr apart ↦ inr (inl apart)
-        ]
+        | inl (ranges, number) ↦ inl ranges
+        | inr apart ↦ inr (inl apart)
+      ]
       | inr (inr more) ↦ elim (precedes_tells r s (sym (λ x. precedes (gs x) (e x)) ∙ f.apart j i s more at_i)) [
-          | inl (ranges, number) ↦ inl (sym ranges)
-          | inr apart ↦ inr (inr apart)
-        ]
+        | inl (ranges, number) ↦ inl (sym ranges)
+        | inr apart ↦ inr (inr apart)
+      ]
     ]
 
 -- what lies behind a span or before it doesn't lie inside
@@ -62,17 +61,17 @@ fragment_whole ts s f has at h =
     let o = ordered_at ts r f there in
     elim (related ts s r f has there) [
       | inl ranges ↦ elim end [
-          | inl e ↦ before_splits_not at s (sym (ap (λ x. is_upto x s.range.lo) (ap (λ x. x.lo) ranges ∙ e)) ∙ upto-itself s.range.lo)
-          | inr e ↦ behind_splits_not at s (sym (ap (λ x. is_upto s.range.hi x) (ap (λ x. x.hi) ranges ∙ e)) ∙ upto-itself s.range.hi)
-        ]
+        | inl e ↦ before_splits_not at s (sym (ap (λ x. is_upto x s.range.lo) (ap (λ x. x.lo) ranges ∙ e)) ∙ upto-itself s.range.lo)
+        | inr e ↦ behind_splits_not at s (sym (ap (λ x. is_upto s.range.hi x) (ap (λ x. x.hi) ranges ∙ e)) ∙ upto-itself s.range.hi)
+      ]
       | inr (inl behind) ↦ elim end [
-          | inl e ↦ behind_splits_not at s (subst (λ x. is_upto s.range.hi x ≡ true) e behind)
-          | inr e ↦ behind_splits_not at s (subst (λ x. is_upto s.range.hi x ≡ true) e (upto_trans s.range.hi r.range.lo r.range.hi behind (upto_from_below r.range.lo r.range.hi o)))
-        ]
+        | inl e ↦ behind_splits_not at s (subst (λ x. is_upto s.range.hi x ≡ true) e behind)
+        | inr e ↦ behind_splits_not at s (subst (λ x. is_upto s.range.hi x ≡ true) e (upto_trans s.range.hi r.range.lo r.range.hi behind (upto_from_below r.range.lo r.range.hi o)))
+      ]
       | inr (inr before) ↦ elim end [
-          | inl e ↦ before_splits_not at s (subst (λ x. is_upto x s.range.lo ≡ true) e (upto_trans r.range.lo r.range.hi s.range.lo (upto_from_below r.range.lo r.range.hi o) before))
-          | inr e ↦ before_splits_not at s (subst (λ x. is_upto x s.range.lo ≡ true) e before)
-        ]
+        | inl e ↦ before_splits_not at s (subst (λ x. is_upto x s.range.lo ≡ true) e (upto_trans r.range.lo r.range.hi s.range.lo (upto_from_below r.range.lo r.range.hi o) before))
+        | inr e ↦ before_splits_not at s (subst (λ x. is_upto x s.range.lo ≡ true) e before)
+      ]
     ]
 
 fragment_piece : (ts : List Tombstone) (s : Tombstone) → AreFragments ts → Has ts s → IsPiece ts s
@@ -111,13 +110,13 @@ not_both s t os ot p q =
     let cycle : (a b : List ℕ) → is_below a b ≡ true → is_upto b a ≡ true → ⊥ = λ a b h g. false≢true (sym (below-itself a) ∙ below_upto a b a h g) in
     elim (precedes_tells s t p) [
       | inl (same, less) ↦ elim (precedes_tells t s q) [
-          | inl (same2, more) ↦ omega arith
-          | inr apart ↦ cycle t.range.lo t.range.hi ot (ap (λ r. is_upto t.range.hi r.lo) (sym same) ∙ apart)
-        ]
+        | inl (same2, more) ↦ omega arith
+        | inr apart ↦ cycle t.range.lo t.range.hi ot (ap (λ r. is_upto t.range.hi r.lo) (sym same) ∙ apart)
+      ]
       | inr apart ↦ elim (precedes_tells t s q) [
-          | inl (same2, more) ↦ cycle s.range.lo s.range.hi os (ap (λ r. is_upto s.range.hi r.lo) (sym same2) ∙ apart)
-          | inr apart2 ↦ cycle s.range.lo s.range.hi os (upto_trans s.range.hi t.range.lo s.range.lo apart (upto_trans t.range.lo t.range.hi s.range.lo (upto_from_below t.range.lo t.range.hi ot) apart2))
-        ]
+        | inl (same2, more) ↦ cycle s.range.lo s.range.hi os (ap (λ r. is_upto s.range.hi r.lo) (sym same2) ∙ apart)
+        | inr apart2 ↦ cycle s.range.lo s.range.hi os (upto_trans s.range.hi t.range.lo s.range.lo apart (upto_trans t.range.lo t.range.hi s.range.lo (upto_from_below t.range.lo t.range.hi ot) apart2))
+      ]
     ]
 
 behind_head : (x y : Tombstone) (xs : List Tombstone) → AreFragments (x ∷ xs) → Has xs y → precedes x y ≡ true
@@ -127,9 +126,9 @@ same_head : (x y : Tombstone) (xs ys : List Tombstone) → AreFragments (x ∷ x
 same_head x y xs ys f g same = elim ((same x).0 (inl refl)) [
   | inl e ↦ sym e
   | inr h ↦ elim ((same y).1 (inl refl)) [
-      | inl e ↦ e
-      | inr k ↦ absurd (not_both x y (ordered_at (x ∷ xs) x f (inl refl)) (ordered_at (y ∷ ys) y g (inl refl)) (behind_head x y xs f k) (behind_head y x ys g h))
-    ]
+    | inl e ↦ e
+    | inr k ↦ absurd (not_both x y (ordered_at (x ∷ xs) x f (inl refl)) (ordered_at (y ∷ ys) y g (inl refl)) (behind_head x y xs f k) (behind_head y x ys g h))
+  ]
 ]
 
 -- an element behind the head isn't the head

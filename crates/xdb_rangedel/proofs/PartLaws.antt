@@ -1,23 +1,23 @@
 -- Searches in fragments, and the parts that they find.
-use Rattle.std.proofs.Common.{◌≡◌, ℕ, zero, suc, ◌+◌, ◌-◌, min, ◌<◌, ◌≤◌, Bool, true, false, not, ◌&&◌, ◌||◌, cond, ltb, leb, List, [], ◌∷◌, length, get_or, take, drop, map, Option, Some, None, inl, inr, ◌⊎◌, IsTrue, refl, sym, ap, ◌∙◌, subst, arith}
-use Rattle.std.proofs.lemmas.Bool.{cases_Bool, cases_order, cases_lt, and_parts, and_from, and_left, and_right, or_cases, or_parts, or_left, or_right, false≢true, ltb-true, leb-true, leb-false, lt-ltb, le-ltb, not-true}
+use Rattle.std.proofs.Common.{◌≡◌, ℕ, zero, suc, ◌+◌, ◌-◌, min, ◌<◌, ◌≤◌, Bool, true, false, not, ◌&&◌, cond, ltb, leb, List, [], ◌∷◌, length, get_or, take, drop, map, Option, Some, None, inl, inr, ◌⊎◌, IsTrue, refl, sym, ap, ◌∙◌, subst, arith}
+use Rattle.std.proofs.lemmas.Bool.{cases_Bool, cases_order, and_parts, and_from, and_left, and_right, or_cases, or_parts, or_left, or_right, false≢true, ltb-true, leb-true, leb-false, lt-ltb, le-ltb, not-true}
 use Rattle.std.proofs.lemmas.List.{get_or_default, get_or-drop, length-drop, length-take, get_or-take, take_rest}
 use Rattle.std.proofs.lemmas.List.Elements.{All-drop}
-use Rattle.std.specs.List.{All, AllPairs, AllWithin, filter_map, cons_option}
+use Rattle.std.specs.List.{All, filter_map, cons_option}
 use Rattle.std.specs.List.Sorted.{IsPartitionedBy, IsPartitionPoint}
 use Rattle.std.specs.Ordering.{eq_by_cmp}
 use Rattle.xdb_key.specs.Order.{key_cmp, is_below, is_upto}
 use Rattle.xdb_key.specs.Bounds.{Bounds, bounds, holds, meets}
 use Rattle.xdb_key.specs.Entries.{Tombstone, tombstone}
-use Rattle.xdb_key.proofs.OrderLaws.{upto-not_below, upto_from_below, below_trans, below_upto, upto_below, upto_trans, below-itself}
+use Rattle.xdb_key.proofs.OrderLaws.{upto-not_below, upto_from_below, below_trans, below_upto, upto_below, upto_trans}
 use Rattle.xdb_rangedel.specs.Members.{Has}
 use Rattle.xdb_rangedel.specs.Cover.{cover_of}
 use Rattle.xdb_rangedel.specs.Pieces.{precedes, is_ordered, AreFragments}
-use Rattle.xdb_rangedel.specs.Clip.{later_of, earlier_of, starting_from, ending_by, part_before, part_from, part_in, parts_before, parts_from, parts_in}
+use Rattle.xdb_rangedel.specs.Clip.{earlier_of, starting_from, ending_by, part_before, part_from, part_in, parts_before, parts_from, parts_in}
 use Rattle.xdb_rangedel.specs.Sweep.{ends_by, starts_before, is_passed}
 use Rattle.xdb_rangedel.proofs.MemberLaws.{Contains-from_Has, Has-get_or}
 use Rattle.xdb_rangedel.proofs.NewestLaws.{same_key-tells}
-use Rattle.xdb_rangedel.proofs.CoverLaws.{Covered, covers_at, cover_of-covered}
+use Rattle.xdb_rangedel.proofs.CoverLaws.{covers_at, cover_of-covered}
 
 same_bounds : (r o : Bounds) → r.lo ≡ o.lo → r.hi ≡ o.hi → r ≡ o
 same_bounds r o e f = λ i. record { lo = e i; hi = f i }
@@ -63,12 +63,12 @@ le-leb_at a b h = elim (cases_Bool (leb a b)) [ inl e ↦ e | inr e ↦ absurd (
 pub is_passed-partitioned : (key : List ℕ) (limit : ℕ) (ts : List Tombstone) → AreFragments ts → IsPartitionedBy (is_passed key limit) ts
 is_passed-partitioned key limit ts fragments = partitioned_by (is_passed key limit) ts fragments (λ s t os ot before h. elim (precedes_tells s t before) [
   | inl (same, less) ↦ elim (or_cases (ends_by key t) (is_upto t.range.lo key && leb limit t.seq) h) [
-      | inl done ↦ or_left (ends_by key s) (is_upto s.range.lo key && leb limit s.seq) (ap (λ r. is_upto r.hi key) same ∙ done)
-      | inr high ↦
-          let (start, number) = and_parts (is_upto t.range.lo key) (leb limit t.seq) high in
-          let low : limit ≤ t.seq = leb-true limit t.seq number in
-          or_right (ends_by key s) (is_upto s.range.lo key && leb limit s.seq) (and_from (is_upto s.range.lo key) (leb limit s.seq) (ap (λ r. is_upto r.lo key) same ∙ start) (le-leb_at limit s.seq (omega arith)))
-    ]
+    | inl done ↦ or_left (ends_by key s) (is_upto s.range.lo key && leb limit s.seq) (ap (λ r. is_upto r.hi key) same ∙ done)
+    | inr high ↦
+        let (start, number) = and_parts (is_upto t.range.lo key) (leb limit t.seq) high in
+        let low : limit ≤ t.seq = leb-true limit t.seq number in
+        or_right (ends_by key s) (is_upto s.range.lo key && leb limit s.seq) (and_from (is_upto s.range.lo key) (leb limit s.seq) (ap (λ r. is_upto r.lo key) same ∙ start) (le-leb_at limit s.seq (omega arith)))
+  ]
   | inr apart ↦
       let start : is_upto t.range.lo key ≡ true = elim (or_cases (ends_by key t) (is_upto t.range.lo key && leb limit t.seq) h) [
         | inl done ↦ upto_trans t.range.lo t.range.hi key (upto_from_below t.range.lo t.range.hi ot) done
@@ -127,17 +127,19 @@ cover_found key limit ts n t fragments split inside at_t held =
     let (behind, number) = open_there key limit ts n t f inside at_t in
     let start = (and_parts (is_upto t.range.lo key) (is_below key t.range.hi) held).0 in
     let low : t.seq < limit = leb-false limit t.seq (and_second (is_upto t.range.lo key) (leb limit t.seq) number start) in
-    cover_of-covered ts key limit (Some t.seq)
-      ((t, subst (λ x. Has ts x) (sym at_t) (Has-get_or ts n t inside), and_from (holds t.range key) (ltb t.seq limit) held (lt-ltb t.seq limit low), refl), λ u has covers.
-        let (j, below, at_u) = Contains-from_Has ts u has in
-        elim (cases_order j n) [
-          | inl e ↦ let same : u.seq ≡ t.seq = ap (λ x. x.seq) (one_place ts n j t u below e at_t at_u) in omega arith
-          | inr (inl less) ↦ absurd (earlier_covers_not key limit ts n j u f less at_u covers)
-          | inr (inr more) ↦ elim (later_tells key limit ts n j t u f more below at_t at_u) [
+    cover_of-covered ts key limit (Some t.seq) (
+      (t, subst (λ x. Has ts x) (sym at_t) (Has-get_or ts n t inside), and_from (holds t.range key) (ltb t.seq limit) held (lt-ltb t.seq limit low), refl),
+      λ u has covers.
+          let (j, below, at_u) = Contains-from_Has ts u has in
+          elim (cases_order j n) [
+            | inl e ↦ let same : u.seq ≡ t.seq = ap (λ x. x.seq) (one_place ts n j t u below e at_t at_u) in omega arith
+            | inr (inl less) ↦ absurd (earlier_covers_not key limit ts n j u f less at_u covers)
+            | inr (inr more) ↦ elim (later_tells key limit ts n j t u f more below at_t at_u) [
               | inl (same, less) ↦ omega arith
               | inr apart ↦ absurd (false≢true (sym (behind_covers_not key limit u (below_upto key t.range.hi u.range.lo (below-from_not_upto t.range.hi key behind) apart)) ∙ covers))
             ]
-        ])
+          ],
+    )
 
 pub cover_not_held : (key : List ℕ) (limit : ℕ) (ts : List Tombstone) (n : ℕ) (t : Tombstone) → AreFragments ts → IsPartitionPoint (λ x. is_passed key limit x ≡ true) (λ x. is_passed key limit x ≡ false) ts n → n < length ts → t ≡ get_or ts n t → holds t.range key ≡ false → ◌≡◌ {A = Option ℕ} None (cover_of ts key limit)
 cover_not_held key limit ts n t fragments split inside at_t free =
@@ -149,22 +151,22 @@ cover_not_held key limit ts n t fragments split inside at_t free =
       | inr e ↦ below-from_not_upto t.range.lo key e
     ] in
     cover_of-covered ts key limit None (λ u has covers.
-      let (j, below, at_u) = Contains-from_Has ts u has in
-      elim (cases_order j n) [
-        | inl e ↦ false≢true (sym (behind_covers_not key limit u (ap (λ x. is_below key x.range.lo) (one_place ts n j t u below e at_t at_u) ∙ before)) ∙ covers)
-        | inr (inl less) ↦ earlier_covers_not key limit ts n j u f less at_u covers
-        | inr (inr more) ↦ elim (later_tells key limit ts n j t u f more below at_t at_u) [
-            | inl (same, less) ↦ false≢true (sym (behind_covers_not key limit u (ap (λ r. is_below key r.lo) (sym same) ∙ before)) ∙ covers)
-            | inr apart ↦ false≢true (sym (behind_covers_not key limit u (below_upto key t.range.hi u.range.lo before_end apart)) ∙ covers)
-          ]
-      ])
+    let (j, below, at_u) = Contains-from_Has ts u has in
+    elim (cases_order j n) [
+      | inl e ↦ false≢true (sym (behind_covers_not key limit u (ap (λ x. is_below key x.range.lo) (one_place ts n j t u below e at_t at_u) ∙ before)) ∙ covers)
+      | inr (inl less) ↦ earlier_covers_not key limit ts n j u f less at_u covers
+      | inr (inr more) ↦ elim (later_tells key limit ts n j t u f more below at_t at_u) [
+        | inl (same, less) ↦ false≢true (sym (behind_covers_not key limit u (ap (λ r. is_below key r.lo) (sym same) ∙ before)) ∙ covers)
+        | inr apart ↦ false≢true (sym (behind_covers_not key limit u (below_upto key t.range.hi u.range.lo before_end apart)) ∙ covers)
+      ]
+    ])
 
 pub cover_past : (key : List ℕ) (limit : ℕ) (ts : List Tombstone) (n : ℕ) → AreFragments ts → IsPartitionPoint (λ x. is_passed key limit x ≡ true) (λ x. is_passed key limit x ≡ false) ts n → length ts ≤ n → ◌≡◌ {A = Option ℕ} None (cover_of ts key limit)
 cover_past key limit ts n fragments split past =
     let f : Found key limit ts n = record { fragments = fragments; split = split } in
     cover_of-covered ts key limit None (λ u has covers.
-      let (j, below, at_u) = Contains-from_Has ts u has in
-      earlier_covers_not key limit ts n j u f (omega arith) at_u covers)
+    let (j, below, at_u) = Contains-from_Has ts u has in
+    earlier_covers_not key limit ts n j u f (omega arith) at_u covers)
 
 -- a list of which the test keeps a front, a back, or what stands between
 
@@ -200,8 +202,8 @@ none_if b y h = ap (λ x. cond x (Some y) None) h
 pub parts_before-front : (at : List ℕ) (ts : List Tombstone) (n : ℕ) → IsPartitionPoint (λ t. starts_before at t ≡ true) (λ t. starts_before at t ≡ false) ts n → n ≤ length ts → parts_before at ts ≡ map (ending_by at) (take n ts)
 parts_before-front at ts n split inside =
     filter_map_front (part_before at) (ending_by at) ts n
-      (λ i d a l. some_if (is_below (get_or ts i d).range.lo at) (ending_by at (get_or ts i d)) (split.0 i d (omega arith) a))
-      (λ i d a l. none_if (is_below (get_or ts i d).range.lo at) (ending_by at (get_or ts i d)) (split.1 i d a l))
+    (λ i d a l. some_if (is_below (get_or ts i d).range.lo at) (ending_by at (get_or ts i d)) (split.0 i d (omega arith) a))
+    (λ i d a l. none_if (is_below (get_or ts i d).range.lo at) (ending_by at (get_or ts i d)) (split.1 i d a l))
 
 -- what doesn't end at the bound or before reaches behind it
 open_behind : (at : List ℕ) (t : Tombstone) → ends_by at t ≡ false → is_below at t.range.hi ≡ true
@@ -214,9 +216,9 @@ pub parts_from-back : (at : List ℕ) (ts : List Tombstone) (n : ℕ) → IsPart
 parts_from-back at ts n split inside =
     filter_map_drop (part_from at) ts n (λ i d a l. none_if (is_below at (get_or ts i d).range.hi) (starting_from at (get_or ts i d)) (ended at (get_or ts i d) (split.0 i d (omega arith) a)))
     ∙ filter_map_all (part_from at) (starting_from at) (drop n ts) (λ i d l.
-        let there : i < length ts - n = subst (λ m. i < m) (length-drop n ts) l in
-        some_if (is_below at (get_or (drop n ts) i d).range.hi) (starting_from at (get_or (drop n ts) i d))
-          (ap (λ x. is_below at x.range.hi) (get_or-drop n ts i d) ∙ open_behind at (get_or ts (n + i) d) (split.1 (n + i) d (omega arith) (omega arith))))
+    let there : i < length ts - n = subst (λ m. i < m) (length-drop n ts) l in
+    some_if (is_below at (get_or (drop n ts) i d).range.hi) (starting_from at (get_or (drop n ts) i d))
+    (ap (λ x. is_below at x.range.hi) (get_or-drop n ts i d) ∙ open_behind at (get_or ts (n + i) d) (split.1 (n + i) d (omega arith) (omega arith))))
 
 -- a part that is whole, and one that is cut
 
@@ -244,8 +246,8 @@ pub AreFragments-drop : (n : ℕ) (ts : List Tombstone) → AreFragments ts → 
 AreFragments-drop n ts fragments = record {
   ordered = All-drop (λ t. IsTrue (is_ordered t)) n ts fragments.ordered;
   apart = λ i j d less inside.
-    let there : j < length ts - n = subst (λ m. j < m) (length-drop n ts) inside in
-    subst (λ x. IsTrue (precedes x (get_or (drop n ts) j d))) (sym (get_or-drop n ts i d))
+      let there : j < length ts - n = subst (λ m. j < m) (length-drop n ts) inside in
+      subst (λ x. IsTrue (precedes x (get_or (drop n ts) j d))) (sym (get_or-drop n ts i d))
       (subst (λ x. IsTrue (precedes (get_or ts (n + i) d) x)) (sym (get_or-drop n ts j d)) (fragments.apart (n + i) (n + j) d (omega arith) (omega arith)));
 }
 
@@ -272,14 +274,14 @@ module _ (r : Bounds) (ts : List Tombstone) (n m : ℕ) (ends : IsPartitionPoint
   pub parts_in-middle : parts_in r ts ≡ map (λ t. starting_from r.lo (ending_by r.hi t)) (take m (drop n ts))
   parts_in-middle =
       filter_map_drop (part_in r) ts n (λ i d a l. none_if (meets (get_or ts i d).range r) (starting_from r.lo (ending_by r.hi (get_or ts i d)))
-        (and_right (is_below (get_or ts i d).range.lo r.hi) (is_below r.lo (get_or ts i d).range.hi) (ended r.lo (get_or ts i d) (ends.0 i d (omega arith) a))))
+      (and_right (is_below (get_or ts i d).range.lo r.hi) (is_below r.lo (get_or ts i d).range.hi) (ended r.lo (get_or ts i d) (ends.0 i d (omega arith) a))))
       ∙ filter_map_front (part_in r) (λ t. starting_from r.lo (ending_by r.hi t)) (drop n ts) m
-        (λ i d a l.
-          let t = get_or (drop n ts) i d in
-          some_if (meets t.range r) (starting_from r.lo (ending_by r.hi t)) (and_from (is_below t.range.lo r.hi) (is_below r.lo t.range.hi) (starts.0 i d (omega arith) a) (open_rest r.lo ts n ends i d l)))
-        (λ i d a l.
-          let t = get_or (drop n ts) i d in
-          none_if (meets t.range r) (starting_from r.lo (ending_by r.hi t)) (and_left (is_below t.range.lo r.hi) (is_below r.lo t.range.hi) (starts.1 i d a l)))
+      (λ i d a l.
+      let t = get_or (drop n ts) i d in
+      some_if (meets t.range r) (starting_from r.lo (ending_by r.hi t)) (and_from (is_below t.range.lo r.hi) (is_below r.lo t.range.hi) (starts.0 i d (omega arith) a) (open_rest r.lo ts n ends i d l)))
+      (λ i d a l.
+      let t = get_or (drop n ts) i d in
+      none_if (meets t.range r) (starting_from r.lo (ending_by r.hi t)) (and_left (is_below t.range.lo r.hi) (is_below r.lo t.range.hi) (starts.1 i d a l)))
 
 pub parts_from-rest : (at : List ℕ) (ts : List Tombstone) (n : ℕ) → IsPartitionPoint (λ t. ends_by at t ≡ true) (λ t. ends_by at t ≡ false) ts n → n ≤ length ts → parts_from at ts ≡ map (starting_from at) (take (length ts - n) (drop n ts))
 parts_from-rest at ts n split inside = parts_from-back at ts n split inside ∙ ap (map (starting_from at)) (sym (take_rest ts n))

@@ -1,10 +1,10 @@
 -- Pieces: each lies in a span of its number, between two bounds, and no bound lies inside it.
-use Rattle.std.proofs.Common.{◌≡◌, ℕ, Bool, true, false, not, ◌&&◌, cond, List, [], ◌∷◌, ◌++◌, inl, inr, ◌⊎◌, IsTrue, refl, sym, ap, ◌∙◌, subst}
-use Rattle.std.proofs.lemmas.Bool.{cases_Bool, and_parts, and_from, and_left, and_right, and_cases, false≢true, false_from_ne_true}
+use Rattle.std.proofs.Common.{◌≡◌, ℕ, Bool, true, false, not, ◌&&◌, cond, List, [], ◌∷◌, inl, inr, ◌⊎◌, refl, sym, ap, ◌∙◌, subst}
+use Rattle.std.proofs.lemmas.Bool.{and_parts, and_from, and_left, and_right, and_cases, false≢true, false_from_ne_true}
 use Rattle.xdb_key.specs.Order.{is_below, is_upto}
-use Rattle.xdb_key.specs.Bounds.{Bounds, bounds, covers}
+use Rattle.xdb_key.specs.Bounds.{bounds}
 use Rattle.xdb_key.specs.Entries.{Tombstone, tombstone}
-use Rattle.xdb_key.proofs.OrderLaws.{upto-itself, below-itself, upto-not_below, upto_from_below, upto_trans, upto_antisymm, below_trans, below_upto, upto_below}
+use Rattle.xdb_key.proofs.OrderLaws.{upto-itself, below-itself, upto-not_below, upto_from_below, upto_trans, upto_antisymm, below_upto, upto_below}
 use Rattle.xdb_rangedel.specs.Members.{Has}
 use Rattle.xdb_rangedel.specs.Pieces.{ends, splits, cut_span, cut_spans, cut_all, pieces, is_ordered, IsPiece}
 use Rattle.xdb_rangedel.proofs.MemberLaws.{Has-append_cases, Has-append_left, Has-append_right}
@@ -106,8 +106,8 @@ cut_tells at s u false e o (inr h) = absurd h
 -- what lies inside a part lies inside the whole
 splits_inside : (at : List ℕ) (u t : Tombstone) → LiesIn u t → splits at u ≡ false → splits at t ≡ false
 splits_inside at u t l free = false_from_ne_true (splits at t) (λ h.
-  let (after, before) = and_parts (is_below t.range.lo at) (is_below at t.range.hi) h in
-  false≢true (sym free ∙ and_from (is_below u.range.lo at) (is_below at u.range.hi) (upto_below u.range.lo t.range.lo at l.lo after) (below_upto at t.range.hi u.range.hi before l.hi)))
+    let (after, before) = and_parts (is_below t.range.lo at) (is_below at t.range.hi) h in
+    false≢true (sym free ∙ and_from (is_below u.range.lo at) (is_below at u.range.hi) (upto_below u.range.lo t.range.lo at l.lo after) (below_upto at t.range.hi u.range.hi before l.hi)))
 
 cut_more : (at : List ℕ) (ats : List (List ℕ)) (s u t : Tombstone) → CutOnce at s u → Cut ats u t → Cut (at ∷ ats) s t
 cut_more at ats s u t a b = record {
@@ -131,8 +131,8 @@ cut_all_tells [] ts t ordered h =
     (t, h, record { inside = record { lo = upto-itself t.range.lo; hi = upto-itself t.range.hi; seq = refl }; start = inl refl; end = inl refl; whole = λ at g. absurd g }, ordered t h)
 cut_all_tells (at ∷ ats) ts t ordered h =
     let once = λ (u : Tombstone) (g : Has (cut_spans at ts) u).
-      let from = cut_spans_from at ts u g in
-      cut_tells at from.0 u (splits at from.0) refl (ordered from.0 from.1) from.2 in
+    let from = cut_spans_from at ts u g in
+    cut_tells at from.0 u (splits at from.0) refl (ordered from.0 from.1) from.2 in
     let later = cut_all_tells ats (cut_spans at ts) t (λ u g. (once u g).ordered) h in
     let from = cut_spans_from at ts later.0 later.1 in
     (from.0, from.1, cut_more at ats from.0 later.0 t (cut_tells at from.0 later.0 (splits at from.0) refl (ordered from.0 from.1) from.2) later.2, later.3)

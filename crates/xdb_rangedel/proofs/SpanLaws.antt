@@ -1,19 +1,19 @@
 -- Spans in a content: what they say of a key is what covers it, and entries and spans may be told apart.
-use Rattle.std.proofs.Common.{◌≡◌, ℕ, ◌+◌, ◌*◌, ◌<◌, ◌≤◌, Bool, true, false, ◌&&◌, cond, ltb, List, [], ◌∷◌, ◌++◌, map, Option, Some, None, inl, inr, ◌⊎◌, IsTrue, refl, sym, ap, ◌∙◌, subst, arith}
-use Rattle.std.proofs.lemmas.Bool.{lt-ltb, le-ltb, cases_lt, cases_Bool, and_parts, and_from}
+use Rattle.std.proofs.Common.{◌≡◌, ℕ, ◌+◌, ◌*◌, Bool, true, false, ◌&&◌, cond, ltb, List, [], ◌∷◌, ◌++◌, map, Option, Some, None, inl, inr, IsTrue, refl, sym, ap, ◌∙◌, subst, arith}
+use Rattle.std.proofs.lemmas.Bool.{lt-ltb, le-ltb, cases_lt, and_parts, and_from}
 use Rattle.std.proofs.lemmas.List.{append-nil}
 use Rattle.std.specs.Option.{option_map}
-use Rattle.xdb_key.specs.Bounds.{Bounds, bounds, holds}
+use Rattle.xdb_key.specs.Bounds.{holds}
 use Rattle.xdb_key.specs.Order.{is_below, is_upto}
-use Rattle.xdb_key.specs.Entries.{Point, Tombstone, tombstone}
+use Rattle.xdb_key.specs.Entries.{Point, Tombstone}
 use Rattle.xdb_key.proofs.OrderLaws.{upto_trans, below_upto}
 use Rattle.xdb_rangedel.specs.Members.{Has}
 use Rattle.xdb_rangedel.specs.Cover.{greater, cover_by, cover_of}
 use Rattle.xdb_rangedel.specs.Pieces.{pieces}
-use Rattle.xdb_rangedel.specs.Content.{Item, entry, span, Verdict, deleted, Mark, seq_of, here, rank, said, mark, is_seen, mark_at, newer, newest, entries_in, spans_in, in_pieces, entry_of, content_of}
+use Rattle.xdb_rangedel.specs.Content.{Item, entry, span, Mark, here, rank, said, mark, is_seen, mark_at, newer, newest, entries_in, spans_in, in_pieces, entry_of, content_of}
 use Rattle.xdb_rangedel.specs.Layers.{IsDrawn, deleted_at}
 use Rattle.xdb_rangedel.proofs.MemberLaws.{Has-append_cases, Has-from_map}
-use Rattle.xdb_rangedel.proofs.NewestLaws.{newer-none, newer-rises, newer-stays, newer_assoc, newest-append}
+use Rattle.xdb_rangedel.proofs.NewestLaws.{newer-rises, newer-stays, newer_assoc, newest-append}
 use Rattle.xdb_rangedel.proofs.CoverLaws.{cover_of-pieces}
 use Rattle.xdb_rangedel.proofs.PieceLaws.{piece_inside}
 

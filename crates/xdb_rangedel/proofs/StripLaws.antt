@@ -1,12 +1,12 @@
 -- Bounds that rise, the places of spans among them, and the numbers of strips over a gap.
-use Rattle.std.proofs.Common.{◌≡◌, ℕ, zero, suc, ◌+◌, ◌-◌, max, ◌<◌, ◌≤◌, ◌^◌, Bool, true, false, not, ◌&&◌, ◌||◌, cond, ltb, leb, eqb, List, [], ◌∷◌, ◌++◌, length, get_or, take, drop, set, map, Option, Some, None, inl, inr, ◌⊎◌, ◌↔◌, IsTrue, refl, sym, ap, ◌∙◌, subst, append_assoc, arith}
-use Rattle.std.proofs.lemmas.Bool.{cases_Bool, cases_order, cases_eq, cases_lt, and_parts, and_from, and_left, and_right, or_cases, or_left, or_right, false≢true, true≢false, ltb-true, ltb-false, leb-true, leb-false, eqb-true, eq-eqb, ne_eqb, lt-ltb, le-ltb, le-leb, lt-leb}
-use Rattle.std.proofs.lemmas.List.{append-nil, take_more, drop_more, drop_all, get_or-set_same, get_or-set_other, get_or_default}
+use Rattle.std.proofs.Common.{◌≡◌, ℕ, zero, suc, ◌+◌, max, ◌<◌, ◌≤◌, ◌^◌, true, false, not, ◌&&◌, cond, ltb, leb, eqb, List, [], ◌∷◌, ◌++◌, length, get_or, take, set, map, inl, inr, ◌⊎◌, IsTrue, refl, sym, ap, ◌∙◌, subst, arith}
+use Rattle.std.proofs.lemmas.Bool.{cases_Bool, cases_order, cases_eq, cases_lt, and_parts, and_from, and_left, and_right, or_cases, or_left, or_right, false≢true, ltb-true, leb-true, eqb-true, eq-eqb, lt-ltb, le-ltb, le-leb, lt-leb}
+use Rattle.std.proofs.lemmas.List.{append-nil, take_more, get_or-set_same, get_or-set_other, get_or_default}
 use Rattle.std.proofs.Math.Numerals.{add-one}
 use Rattle.std.proofs.lemmas.List.Elements.{All-push, All-cons, All-weaker, All-from_recursion}
 use Rattle.std.proofs.lemmas.List.Sorted.{Contains-permutation, IsPermutation-sym}
 use Rattle.std.proofs.lemmas.List.Kept.{AllPairs-cons, Contains-dedup, Contains-from_dedup}
-use Rattle.std.specs.List.{All, AllPairs, AllWithin, AllByRecursion, dedup}
+use Rattle.std.specs.List.{All, AllPairs, dedup}
 use Rattle.std.specs.List.Sorted.{IsPartitionPoint, IsPartitionedBy, IsPermutation, IsStrictlySortedBy}
 use Rattle.std.specs.Ordering.{is_lt, nat_cmp, ordering_then}
 use Rattle.std.specs.Cmp.Lexicographic.{pointwise, nat_list_eq_equiv, texts_ties}
@@ -15,10 +15,10 @@ use Rattle.std.specs.declared.cmp.Ordering.TheVariants.{Less, Equal, Greater}
 use Rattle.xdb_key.specs.Order.{key_cmp, is_below, is_upto}
 use Rattle.xdb_key.specs.Bounds.{holds}
 use Rattle.xdb_key.specs.Entries.{Tombstone}
-use Rattle.xdb_key.proofs.OrderLaws.{upto-not_below, below_trans, below-itself}
+use Rattle.xdb_key.proofs.OrderLaws.{upto-not_below, below_trans}
 use Rattle.xdb_rangedel.specs.Members.{Has, SameMembers}
 use Rattle.xdb_rangedel.specs.Pieces.{ends}
-use Rattle.xdb_rangedel.specs.Sweep.{IsRising, place_of, is_between, strip_of, FitsGaps, comes_first, lies_over, IsOver, AreColumns}
+use Rattle.xdb_rangedel.specs.Sweep.{IsRising, place_of, is_between, strip_of, FitsGaps, comes_first, lies_over}
 use Rattle.xdb_rangedel.specs.declared.sweep.Strip.{Strip}
 use Rattle.xdb_rangedel.proofs.MemberLaws.{Has-from_Contains, Contains-from_Has}
 use Rattle.xdb_rangedel.proofs.NewestLaws.{same_key-tells}
@@ -84,6 +84,7 @@ place_of-tells (b ∷ bs) at (suc j) d rising inside = elim (cases_Bool (is_belo
     | inl h ↦ lt-ltb (suc m) (suc n) (omega arith) ∙ sym (lt-ltb m n h)
     | inr h ↦ le-ltb (suc m) (suc n) (omega arith) ∙ sym (le-ltb m n h)
   ]
+
   above : (x y : List ℕ) → is_below x at ≡ false → is_below x y ≡ true → is_below y at ≡ false
   above x y h g = elim (cases_Bool (is_below y at)) [ inl e ↦ absurd (false≢true (sym h ∙ below_trans x y at g e)) | inr e ↦ e ]
 
@@ -105,9 +106,9 @@ pub strip_pushed : (bs : List (List ℕ)) (spans : List Tombstone) (old new : Li
 strip_pushed bs spans old new i t strip inside at_t olds news same =
     news ∙ (λ x. olds x ++ same x ∷ []) ∙ sym (ap (map (strip_of bs)) (take_more spans i t inside ∙ ap (λ x. take i spans ++ x ∷ []) (sym at_t)) ∙ map_pushed (take i spans))
   where
-  map_pushed : (ts : List Tombstone) → map (strip_of bs) (ts ++ t ∷ []) ≡ map (strip_of bs) ts ++ strip_of bs t ∷ []
-  map_pushed [] = refl
-  map_pushed (u ∷ ts) = ap (λ ss. strip_of bs u ∷ ss) (map_pushed ts)
+    map_pushed : (ts : List Tombstone) → map (strip_of bs) (ts ++ t ∷ []) ≡ map (strip_of bs) ts ++ strip_of bs t ∷ []
+    map_pushed [] = refl
+    map_pushed (u ∷ ts) = ap (λ ss. strip_of bs u ∷ ss) (map_pushed ts)
 
 pub fits_pushed : (bs : List (List ℕ)) (old new : List Strip) (t : Tombstone) (strip : Strip) → All (FitsGaps (length bs)) old → new ≡ old ++ strip ∷ [] → strip ≡ strip_of bs t → t.seq < 2 ^ 56 → All (FitsGaps (length bs)) new
 fits_pushed bs old new t strip fits news same small =
@@ -158,17 +159,19 @@ ends_pushed ts i t b0 b1 b2 lo hi inside at_t e0 e1 e2 los his =
 -- sorting keeps the members, and leaving out repetitions too
 
 pub same_after_sort : {A : Type 0} (xs ys : List A) → IsPermutation xs ys → SameMembers ys xs
-same_after_sort xs ys p = λ x.
-    ((λ h. Has-from_Contains xs x (Contains-permutation ys xs x (IsPermutation-sym xs ys p) (Contains-from_Has ys x h))),
-     (λ h. Has-from_Contains ys x (Contains-permutation xs ys x p (Contains-from_Has xs x h))))
+same_after_sort xs ys p = λ x. (
+  (λ h. Has-from_Contains xs x (Contains-permutation ys xs x (IsPermutation-sym xs ys p) (Contains-from_Has ys x h))),
+  (λ h. Has-from_Contains ys x (Contains-permutation xs ys x p (Contains-from_Has xs x h))),
+)
 
 equal_bytes : (x y : List ℕ) → pointwise nat_eq x y ≡ true → x ≡ y
 equal_bytes x y h = same_key-tells x y (sym (texts_ties x y) ∙ h)
 
 pub same_after_dedup : (xs ys zs : List (List ℕ)) → IsPermutation xs ys → zs ≡ dedup (pointwise nat_eq) ys → SameMembers zs xs
-same_after_dedup xs ys zs p e = λ x.
-    ((λ h. (same_after_sort xs ys p x).0 (Has-from_Contains ys x (Contains-from_dedup (pointwise nat_eq) ys x (Contains-from_Has (dedup (pointwise nat_eq) ys) x (subst (λ l. Has l x) e h))))),
-     (λ h. subst (λ l. Has l x) (sym e) (Has-from_Contains (dedup (pointwise nat_eq) ys) x (Contains-dedup nat_list_eq_equiv equal_bytes ys x (Contains-from_Has ys x ((same_after_sort xs ys p x).1 h))))))
+same_after_dedup xs ys zs p e = λ x. (
+  (λ h. (same_after_sort xs ys p x).0 (Has-from_Contains ys x (Contains-from_dedup (pointwise nat_eq) ys x (Contains-from_Has (dedup (pointwise nat_eq) ys) x (subst (λ l. Has l x) e h))))),
+  (λ h. subst (λ l. Has l x) (sym e) (Has-from_Contains (dedup (pointwise nat_eq) ys) x (Contains-dedup nat_list_eq_equiv equal_bytes ys x (Contains-from_Has ys x ((same_after_sort xs ys p x).1 h))))),
+)
 
 -- strips in order
 
@@ -190,13 +193,13 @@ first_tells s t h = elim (or_cases (ltb t.number.0 s.number.0) (eqb t.number.0 s
 first_trans : (a b c : Strip) → comes_first a b ≡ true → comes_first b c ≡ true → comes_first a c ≡ true
 first_trans a b c p q = elim (first_tells a b p) [
   | inl down ↦ elim (first_tells b c q) [
-      | inl more ↦ first_below a c (omega arith)
-      | inr (e, le) ↦ first_below a c (omega arith)
-    ]
+    | inl more ↦ first_below a c (omega arith)
+    | inr (e, le) ↦ first_below a c (omega arith)
+  ]
   | inr (e, le) ↦ elim (first_tells b c q) [
-      | inl more ↦ first_below a c (omega arith)
-      | inr (f, le2) ↦ first_level a c (f ∙ e) (omega arith)
-    ]
+    | inl more ↦ first_below a c (omega arith)
+    | inr (f, le2) ↦ first_level a c (f ∙ e) (omega arith)
+  ]
 ]
 
 nat_cmp-less : (m n : ℕ) → m < n → nat_cmp m n ≡ Less
@@ -208,9 +211,9 @@ nat_cmp-equal m n e = ap (λ b. cond b Less (cond (eqb m n) Equal Greater)) (le-
 not_less_first : (a b : Strip) → is_lt (ordering_then (nat_cmp a.number.0 b.number.0) (ordering_then (nat_cmp b.from a.from) (nat_cmp b.to a.to))) ≡ false → comes_first a b ≡ true
 not_less_first a b h = elim (cases_order a.number.0 b.number.0) [
   | inl e ↦ elim (cases_lt b.from a.from) [
-      | inl less ↦ absurd (false≢true (sym h ∙ ap (λ r. is_lt (ordering_then r (ordering_then (nat_cmp b.from a.from) (nat_cmp b.to a.to)))) (nat_cmp-equal a.number.0 b.number.0 e) ∙ ap (λ r. is_lt (ordering_then r (nat_cmp b.to a.to))) (nat_cmp-less b.from a.from less)))
-      | inr le ↦ first_level a b (sym e) le
-    ]
+    | inl less ↦ absurd (false≢true (sym h ∙ ap (λ r. is_lt (ordering_then r (ordering_then (nat_cmp b.from a.from) (nat_cmp b.to a.to)))) (nat_cmp-equal a.number.0 b.number.0 e) ∙ ap (λ r. is_lt (ordering_then r (nat_cmp b.to a.to))) (nat_cmp-less b.from a.from less)))
+    | inr le ↦ first_level a b (sym e) le
+  ]
   | inr (inl less) ↦ absurd (false≢true (sym h ∙ ap (λ r. is_lt (ordering_then r (ordering_then (nat_cmp b.from a.from) (nat_cmp b.to a.to)))) (nat_cmp-less a.number.0 b.number.0 less)))
   | inr (inr more) ↦ first_below a b more
 ]
@@ -222,9 +225,9 @@ in_order_by (s ∷ t ∷ ss) h =
     let rest = in_order_by (t ∷ ss) (λ k d l. h (suc k) d (omega arith)) in
     let first : comes_first s t ≡ true = h 0 s (omega arith) in
     AllPairs-cons (λ x y. IsTrue (comes_first x y)) s (t ∷ ss)
-      (All-cons (λ y. IsTrue (comes_first s y)) t ss first (All-weaker (λ y. IsTrue (comes_first t y)) (λ y. IsTrue (comes_first s y)) (λ y g. first_trans s t y first g) ss (AllPairs-head (λ x y. IsTrue (comes_first x y)) t ss rest)))
-      rest
+    (All-cons (λ y. IsTrue (comes_first s y)) t ss first (All-weaker (λ y. IsTrue (comes_first t y)) (λ y. IsTrue (comes_first s y)) (λ y g. first_trans s t y first g) ss (AllPairs-head (λ x y. IsTrue (comes_first x y)) t ss rest)))
+    rest
 
 pub in_order_sorted : (ss : List Strip) → ((k : ℕ) (d : Strip) → 0 ≤ k → k + 1 < length ss → is_lt (ordering_then (nat_cmp (get_or ss k d).number.0 (get_or ss (k + 1) d).number.0) (ordering_then (nat_cmp (get_or ss (k + 1) d).from (get_or ss k d).from) (nat_cmp (get_or ss (k + 1) d).to (get_or ss k d).to))) ≡ false) → AllPairs (λ s t. IsTrue (comes_first s t)) ss
 in_order_sorted ss h = in_order_by ss (λ k d l.
-  subst (λ n. comes_first (get_or ss k d) (get_or ss n d) ≡ true) (add-one k) (not_less_first (get_or ss k d) (get_or ss (k + 1) d) (h k d (omega arith) (omega arith))))
+    subst (λ n. comes_first (get_or ss k d) (get_or ss n d) ≡ true) (add-one k) (not_less_first (get_or ss k d) (get_or ss (k + 1) d) (h k d (omega arith) (omega arith))))

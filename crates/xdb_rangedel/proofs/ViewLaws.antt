@@ -1,13 +1,12 @@
 -- The part of a content in a range says inside what the content says, and nothing outside.
-use Rattle.std.proofs.Common.{◌≡◌, ℕ, ◌*◌, Bool, true, false, ◌&&◌, cond, ltb, List, [], ◌∷◌, Option, Some, None, inl, inr, ◌⊎◌, IsTrue, refl, sym, ap, ◌∙◌, subst}
+use Rattle.std.proofs.Common.{◌≡◌, ℕ, ◌*◌, Bool, true, false, ◌&&◌, cond, ltb, List, [], ◌∷◌, Option, Some, None, inl, inr, IsTrue, refl, sym, ap, ◌∙◌}
 use Rattle.std.proofs.lemmas.Bool.{cases_Bool, and_parts, false≢true}
-use Rattle.std.specs.List.{filter_map, cons_option}
+use Rattle.std.specs.List.{cons_option}
 use Rattle.std.specs.Option.{option_map}
 use Rattle.xdb_key.specs.Bounds.{Bounds, holds, meets}
 use Rattle.xdb_key.specs.Entries.{Tombstone}
 use Rattle.xdb_rangedel.specs.Members.{Has}
-use Rattle.xdb_rangedel.specs.Cover.{cover_by}
-use Rattle.xdb_rangedel.specs.Clip.{starting_from, ending_by, part_in}
+use Rattle.xdb_rangedel.specs.Clip.{starting_from, ending_by}
 use Rattle.xdb_rangedel.specs.Content.{Item, entry, span, Mark, same_key, here, rank, said, mark, is_seen, mark_at, newer, newest}
 use Rattle.xdb_rangedel.specs.View.{within, restricted}
 use Rattle.xdb_rangedel.specs.Layers.{IsDrawn}
@@ -40,6 +39,7 @@ mark-within_entry r key seq v limit k = elim (cases_Bool (same_key key k)) [
   kept : (g h : Bool) → g ≡ h → mark_in limit k (cond g (Some (entry key seq v)) None) ≡ cond h (mark_at limit k (entry key seq v)) None
   kept true h e = ap (λ b. cond b (mark_at limit k (entry key seq v)) None) e
   kept false h e = ap (λ b. cond b (mark_at limit k (entry key seq v)) None) e
+
   dropped : (g : Bool) → mark_at limit k (entry key seq v) ≡ None → mark_in limit k (cond g (Some (entry key seq v)) None) ≡ cond (holds r k) (mark_at limit k (entry key seq v)) None
   dropped true e = e ∙ none_cond (holds r k) ∙ ap (λ o. cond (holds r k) o None) (sym e)
   dropped false e = none_cond (holds r k) ∙ ap (λ o. cond (holds r k) o None) (sym e)

@@ -92,7 +92,7 @@ pub fn cover_is_greatest()
         → (t : Tombstone) → Has ts t → IsTrue (holds t.range k && nat_lt t.seq limit) → ⊥ }
     ensures some { (ts : List Tombstone) (k : List ℕ) (limit n : ℕ) → cover_of ts k limit ≡ Some n
         → ((t : Tombstone) × Has ts t × IsTrue (holds t.range k && nat_lt t.seq limit) × (t.seq ≡ n))
-            × ((u : Tombstone) → Has ts u → IsTrue (holds u.range k && nat_lt u.seq limit) → u.seq ≤ n) }
+        × ((u : Tombstone) → Has ts u → IsTrue (holds u.range k && nat_lt u.seq limit) → u.seq ≤ n) }
     ensures order { (xs ys : List Tombstone) → SameMembers xs ys → (k : List ℕ) (limit : ℕ)
         → cover_of xs k limit ≡ cover_of ys k limit }
 {}

@@ -98,7 +98,10 @@ fn clipping_at_bounds_inside_and_outside(rt: HostRuntime) -> Result<(), Fail> {
         (("l", "n", 0), &[("l", "n", 6)]),
     ];
     for ((lo, hi, _), rows) in clips {
-        assert!(rt; are(&spans.clip(&range(alloc, lo, hi)?)?, rows), "{lo} {hi}");
+        assert!(rt;
+            are(&spans.clip(&range(alloc, lo, hi)?)?, rows),
+            "{lo} {hi}"
+        );
     }
     Ok(())
 }

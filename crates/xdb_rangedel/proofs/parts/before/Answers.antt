@@ -16,4 +16,4 @@ returns-clause-parts c = parts_known c
 pub returns-clause-fragments : goal.returns-clause-fragments
 returns-clause-fragments c =
     IfOk-weaker c.all_ending_by.result (λ made. made.items ≡ parts_before c.args.at.now c.args.spans.now) (λ made. AreFragments made.items)
-      (λ made e. subst AreFragments (sym e) (AreFragments-parts_before c.args.at.now c.args.spans.now c.requires)) (parts_known c)
+    (λ made e. subst AreFragments (sym e) (AreFragments-parts_before c.args.at.now c.args.spans.now c.requires)) (parts_known c)

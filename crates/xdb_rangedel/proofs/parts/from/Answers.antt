@@ -20,4 +20,4 @@ returns-clause-parts c = parts_known c
 pub returns-clause-fragments : goal.returns-clause-fragments
 returns-clause-fragments c =
     IfOk-weaker c.all_starting_from.result (λ made. made.items ≡ parts_from c.args.at.now c.args.spans.now) (λ made. AreFragments made.items)
-      (λ made e. subst AreFragments (sym e) (AreFragments-parts_from c.args.at.now c.args.spans.now c.requires)) (parts_known c)
+    (λ made e. subst AreFragments (sym e) (AreFragments-parts_from c.args.at.now c.args.spans.now c.requires)) (parts_known c)

@@ -29,4 +29,4 @@ returns-clause-parts c = parts_known c
 pub returns-clause-fragments : goal.returns-clause-fragments
 returns-clause-fragments c =
     IfOk-weaker c.all_inside.result (λ made. made.items ≡ parts_in c.args.range.now c.args.spans.now) (λ made. AreFragments made.items)
-      (λ made e. subst AreFragments (sym e) (AreFragments-parts_in c.args.range.now c.args.spans.now c.lo.ensures.ordered c.requires)) (parts_known c)
+    (λ made e. subst AreFragments (sym e) (AreFragments-parts_in c.args.range.now c.args.spans.now c.lo.ensures.ordered c.requires)) (parts_known c)

@@ -1,4 +1,4 @@
-use Rattle.std.proofs.Common.{◌≡◌, ◌-◌, length, ◌∙◌, ap, sym, subst, arith}
+use Rattle.std.proofs.Common.{◌≡◌, ◌-◌, length, ◌∙◌, ap, arith}
 use Rattle.xdb_key.specs.Order.{is_below}
 use Rattle.std.proofs.lemmas.List.{get_or_default}
 use Rattle.xdb_rangedel.specs.Sweep.{laid}

@@ -7,4 +7,4 @@ use Rattle.xdb_rangedel.proofs.sweep.place.Goals as goal
 pub returns : goal.returns
 returns c =
     place_of-split c.args.bound.now c.args.bounds.now _ c.partition_point.ensures.bound
-      (IsPartitionPoint-from_clause (λ b. is_below b c.args.bound.now) c.args.bounds.now _ c.partition_point.ensures.partitioned (rising-partitioned c.args.bound.now c.args.bounds.now c.requires) (λ a r q k. search rules))
+    (IsPartitionPoint-from_clause (λ b. is_below b c.args.bound.now) c.args.bounds.now _ c.partition_point.ensures.partitioned (rising-partitioned c.args.bound.now c.args.bounds.now c.requires) (λ a r q k. search rules))

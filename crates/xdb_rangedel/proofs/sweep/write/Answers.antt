@@ -1,5 +1,5 @@
-use Rattle.std.proofs.Common.{get_or, [], arith}
-use Rattle.xdb_rangedel.proofs.StripLaws.{write_all, write_more}
+use Rattle.std.proofs.Common.{get_or, []}
+use Rattle.xdb_rangedel.proofs.StripLaws.{write_all}
 use Rattle.xdb_rangedel.proofs.sweep.write.Goals as goal
 
 pub returns : goal.returns
