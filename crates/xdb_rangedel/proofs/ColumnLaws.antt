@@ -1,7 +1,7 @@
 -- Columns: strips are trimmed where an earlier strip of the same number lies, and each then writes its number.
-use Rattle.std.proofs.Common.{◌≡◌, ℕ, ◌+◌, max, ◌<◌, ◌≤◌, Bool, true, false, cond, ltb, leb, eqb, List, [], ◌∷◌, ◌++◌, length, get_or, drop, replicate, Option, Some, None, inl, inr, ◌⊎◌, IsTrue, refl, sym, ap, ◌∙◌, subst, append_assoc, arith}
+use Rattle.std.proofs.Common.{◌≡◌, ℕ, max, ◌<◌, ◌≤◌, Bool, true, false, cond, ltb, leb, eqb, List, [], ◌∷◌, ◌++◌, length, get_or, drop, Option, Some, None, inl, inr, ◌⊎◌, IsTrue, refl, sym, ap, ◌∙◌, subst, arith}
 use Rattle.std.proofs.lemmas.Bool.{cases_eq, cases_lt, and_parts, and_from, ltb-true, leb-true, eq-eqb, ne_eqb, lt-ltb, le-leb}
-use Rattle.std.proofs.lemmas.List.{append-nil, drop_more, drop_all, get_or-replicate, length-replicate}
+use Rattle.std.proofs.lemmas.List.{append-nil, drop_all}
 use Rattle.std.proofs.lemmas.List.Kept.{AllPairs-cons}
 use Rattle.std.specs.List.{All, AllPairs, filter_map, cons_option}
 use Rattle.xdb_rangedel.specs.Members.{Has}
@@ -177,29 +177,6 @@ over_falls (t ∷ ss) number reached j order =
 pub record Written (strips : List Strip) (gaps i number reached : ℕ) (columns : List (List ℕ)) : Type 0 where
   pub count : length columns ≡ gaps
   pub rest : (j : ℕ) → j < gaps → get_or columns j [] ++ numbers_over j (trimmed number reached (drop i strips)) ≡ numbers_over j (trimmed 0 0 strips)
-
-pub written_none : (strips : List Strip) (gaps : ℕ) (columns : List (List ℕ)) → columns ≡ replicate gaps [] → Written strips gaps 0 0 0 columns
-written_none strips gaps columns e = record {
-  count = ap length e ∙ length-replicate gaps [];
-  rest = λ j h. ap (λ c. c ++ numbers_over j (trimmed 0 0 strips)) (ap (λ x. get_or x j []) e ∙ get_or-replicate gaps j [] [] h);
-}
-
-written_by : (b : Bool) (n : ℕ) (ns : List ℕ) → cond b (n ∷ []) [] ++ ns ≡ cons_option (cond b (Some n) None) ns
-written_by true n ns = refl
-written_by false n ns = refl
-
-pub written_more : (strips : List Strip) (gaps i number reached : ℕ) (old new : List (List ℕ)) (s : Strip) (done : ℕ) → Written strips gaps i number reached old → i < length strips → s ≡ get_or strips i s → done ≡ resumed s.number.0 number reached → length new ≡ length old → ((j : ℕ) → get_or new j [] ≡ get_or old j [] ++ cond (is_between (max s.from done) s.to j) (s.number.0 ∷ []) []) → Written strips gaps (i + 1) s.number.0 (max s.to done) new
-written_more strips gaps i number reached old new s done w inside at_s is_done long writes = record {
-  count = long ∙ w.count;
-  rest = λ j h.
-      let left : drop i strips ≡ s ∷ drop (i + 1) strips = drop_more strips i s inside ∙ ap (λ x. x ∷ drop (i + 1) strips) (sym at_s) in
-      let ns = numbers_over j (trimmed s.number.0 (max s.to done) (drop (i + 1) strips)) in
-      let b = is_between (max s.from done) s.to j in
-      ap (λ c. c ++ ns) (writes j) ∙ append_assoc (get_or old j []) (cond b (s.number.0 ∷ []) []) ns
-      ∙ ap (λ x. get_or old j [] ++ x) (written_by b s.number.0 ns)
-      ∙ ap (λ d. get_or old j [] ++ cons_option (number_over j (trim d s)) (numbers_over j (trimmed s.number.0 (max s.to d) (drop (i + 1) strips)))) is_done
-      ∙ sym (ap (λ x. get_or old j [] ++ numbers_over j (trimmed number reached x)) left) ∙ w.rest j h;
-}
 
 pub written_all : (strips : List Strip) (gaps i number reached : ℕ) (columns : List (List ℕ)) → InOrder strips → Written strips gaps i number reached columns → length strips ≤ i → AreColumns strips gaps columns
 written_all strips gaps i number reached columns order w past =

@@ -1,6 +1,6 @@
 -- The newest mark: joined contents, the greatest item, and contents whose order is nothing.
 use Rattle.std.proofs.Common.{◌≡◌, ℕ, ◌<◌, ◌≤◌, true, false, ◌&&◌, cond, ltb, List, [], ◌∷◌, ◌++◌, Option, Some, None, inl, inr, IsTrue, refl, sym, ap, ◌∙◌, subst, arith}
-use Rattle.std.proofs.lemmas.Bool.{lt-ltb, le-ltb, ltb-true, cases_lt, false≢true, and_parts, and_left, and_right, false_from_ne_true, cases_Bool}
+use Rattle.std.proofs.lemmas.Bool.{lt-ltb, le-ltb, cases_lt, false≢true, and_parts, and_left, and_right, false_from_ne_true, cases_Bool}
 use Rattle.std.specs.FinMap.{FinMap, same_map}
 use Rattle.xdb_key.specs.Order.{key_cmp}
 use Rattle.xdb_key.proofs.OrderLaws.{key_exact, key_total}
@@ -181,9 +181,6 @@ mark-same i j e f = λ x. record { place = e x; says = f x }
 -- what is seen is here
 pub seen-here : (limit : ℕ) (k : List ℕ) (i : Item) → is_seen limit k i ≡ true → here k i ≡ true
 seen-here limit k i s = (and_parts (here k i) (ltb (seq_of i) limit) s).0
-
-pub seen-below : (limit : ℕ) (k : List ℕ) (i : Item) → is_seen limit k i ≡ true → seq_of i < limit
-seen-below limit k i s = ltb-true (seq_of i) limit (and_parts (here k i) (ltb (seq_of i) limit) s).1
 
 greatest_by : (c : List Item) (limit : ℕ) (k : List ℕ) (i : Item) (o : Option Mark) → IsClear c → IsGreatest c limit k i → Decided c limit k o → o ≡ Some (mark i)
 greatest_by c limit k i None clear g d = absurd (d i g.member g.seen)

@@ -13,7 +13,7 @@ use Rattle.xdb_key.proofs.OrderLaws.{upto-not_below, upto_from_below, below_tran
 use Rattle.xdb_rangedel.specs.Members.{Has}
 use Rattle.xdb_rangedel.specs.Cover.{cover_of}
 use Rattle.xdb_rangedel.specs.Pieces.{precedes, is_ordered, AreFragments}
-use Rattle.xdb_rangedel.specs.Clip.{earlier_of, starting_from, ending_by, part_before, part_from, part_in, parts_before, parts_from, parts_in}
+use Rattle.xdb_rangedel.specs.Clip.{starting_from, ending_by, part_before, part_from, part_in, parts_before, parts_from, parts_in}
 use Rattle.xdb_rangedel.specs.Sweep.{ends_by, starts_before, is_passed}
 use Rattle.xdb_rangedel.proofs.MemberLaws.{Contains-from_Has, Has-get_or}
 use Rattle.xdb_rangedel.proofs.NewestLaws.{same_key-tells}
@@ -234,13 +234,6 @@ starting_from-whole at t h = sym (ap (λ b. tombstone (bounds (cond b at t.range
 pub starting_from-cut : (at : List ℕ) (t : Tombstone) → is_below t.range.lo at ≡ true → tombstone (bounds at t.range.hi) t.seq ≡ starting_from at t
 starting_from-cut at t h = sym (ap (λ b. tombstone (bounds (cond b at t.range.lo) t.range.hi) t.seq) h)
 
--- a span that starts before an end and reaches behind a start still reaches behind it when it is cut at the end
-pub ending_by-open : (lo hi : List ℕ) (t : Tombstone) → is_below lo hi ≡ true → is_below lo t.range.hi ≡ true → is_below lo (earlier_of hi t.range.hi) ≡ true
-ending_by-open lo hi t a b = elim (cases_Bool (is_below hi t.range.hi)) [
-  | inl h ↦ ap (λ x. is_below lo (cond x hi t.range.hi)) h ∙ a
-  | inr h ↦ ap (λ x. is_below lo (cond x hi t.range.hi)) h ∙ b
-]
-
 -- what is left of fragments
 pub AreFragments-drop : (n : ℕ) (ts : List Tombstone) → AreFragments ts → AreFragments (drop n ts)
 AreFragments-drop n ts fragments = record {
@@ -256,12 +249,6 @@ pub open_rest : (at : List ℕ) (ts : List Tombstone) (n : ℕ) → IsPartitionP
 open_rest at ts n split = λ i d l.
     let there : i < length ts - n = subst (λ m. i < m) (length-drop n ts) l in
     ap (λ x. is_below at x.range.hi) (get_or-drop n ts i d) ∙ open_behind at (get_or ts (n + i) d) (split.1 (n + i) d (omega arith) (omega arith))
-
--- what the search finds starts before the bound
-pub started_front : (at : List ℕ) (ts : List Tombstone) (n : ℕ) → IsPartitionPoint (λ t. starts_before at t ≡ true) (λ t. starts_before at t ≡ false) ts n → All (λ t. IsTrue (starts_before at t)) (take n ts)
-started_front at ts n split = λ i d l.
-    let there : i < n = omega (arith, subst (λ m. i < m) (length-take n ts) l) in
-    ap (λ x. starts_before at x) (get_or-take n ts i d there) ∙ split.0 i d (omega arith) there
 
 module _ (r : Bounds) (ts : List Tombstone) (n m : ℕ) (ends : IsPartitionPoint (λ t. ends_by r.lo t ≡ true) (λ t. ends_by r.lo t ≡ false) ts n) (starts : IsPartitionPoint (λ t. starts_before r.hi t ≡ true) (λ t. starts_before r.hi t ≡ false) (drop n ts) m) where
   pub met_middle : All (λ t. IsTrue (meets t.range r)) (take m (drop n ts))

@@ -1,7 +1,7 @@
 -- Bounds that rise, the places of spans among them, and the numbers of strips over a gap.
-use Rattle.std.proofs.Common.{◌≡◌, ℕ, zero, suc, ◌+◌, max, ◌<◌, ◌≤◌, ◌^◌, true, false, not, ◌&&◌, cond, ltb, leb, eqb, List, [], ◌∷◌, ◌++◌, length, get_or, take, set, map, inl, inr, ◌⊎◌, IsTrue, refl, sym, ap, ◌∙◌, subst, arith}
-use Rattle.std.proofs.lemmas.Bool.{cases_Bool, cases_order, cases_eq, cases_lt, and_parts, and_from, and_left, and_right, or_cases, or_left, or_right, false≢true, ltb-true, leb-true, eqb-true, eq-eqb, lt-ltb, le-ltb, le-leb, lt-leb}
-use Rattle.std.proofs.lemmas.List.{append-nil, take_more, get_or-set_same, get_or-set_other, get_or_default}
+use Rattle.std.proofs.Common.{◌≡◌, ℕ, zero, suc, ◌+◌, max, ◌<◌, ◌≤◌, ◌^◌, true, false, not, ◌&&◌, cond, ltb, leb, eqb, List, [], ◌∷◌, ◌++◌, length, get_or, take, map, inl, inr, ◌⊎◌, IsTrue, refl, sym, ap, ◌∙◌, subst, arith}
+use Rattle.std.proofs.lemmas.Bool.{cases_Bool, cases_order, cases_lt, and_parts, and_from, and_left, and_right, or_cases, or_left, or_right, false≢true, ltb-true, leb-true, eqb-true, eq-eqb, lt-ltb, le-ltb, le-leb, lt-leb}
+use Rattle.std.proofs.lemmas.List.{take_more}
 use Rattle.std.proofs.Math.Numerals.{add-one}
 use Rattle.std.proofs.lemmas.List.Elements.{All-push, All-cons, All-weaker, All-from_recursion}
 use Rattle.std.proofs.lemmas.List.Sorted.{Contains-permutation, IsPermutation-sym}
@@ -118,22 +118,6 @@ pub same_strip : (bs : List (List ℕ)) (t : Tombstone) (n from to : ℕ) → n 
 same_strip bs t n from to e f g = λ i. record { number = record { 0 = e i }; from = f i; to = g i }
 
 -- writing a column
-
-pub write_more : (old now new : List (List ℕ)) (from at j seq : ℕ) (column : List ℕ) → at < length now → from ≤ at → column ≡ get_or now at column → new ≡ set now at (column ++ seq ∷ []) → ((i : ℕ) → get_or now i [] ≡ get_or old i [] ++ cond (is_between from at i) (seq ∷ []) []) → get_or new j [] ≡ get_or old j [] ++ cond (is_between from (at + 1) j) (seq ∷ []) []
-write_more old now new from at j seq column inside started reads writes known = elim (cases_eq j at) [
-  | inl e ↦
-      let before : is_between from at at ≡ false = and_right (leb from at) (ltb at at) (le-ltb at at (omega arith)) in
-      let here : is_between from (at + 1) at ≡ true = and_from (leb from at) (ltb at (at + 1)) (le-leb from at started) (lt-ltb at (at + 1) (omega arith)) in
-      let was : column ≡ get_or old at [] = reads ∙ get_or_default now at column [] inside ∙ known at ∙ ap (λ b. get_or old at [] ++ cond b (seq ∷ []) []) before ∙ append-nil (get_or old at []) in
-      ap (λ i. get_or new i []) e ∙ ap (λ x. get_or x at []) writes ∙ get_or-set_same now at (column ++ seq ∷ []) [] inside
-      ∙ ap (λ x. x ++ seq ∷ []) was ∙ sym (ap (λ b. get_or old at [] ++ cond b (seq ∷ []) []) here) ∙ sym (ap (λ i. get_or old i [] ++ cond (is_between from (at + 1) i) (seq ∷ []) []) e)
-  | inr ne ↦
-      let same : is_between from (at + 1) j ≡ is_between from at j = ap (λ b. leb from j && b) (elim (cases_lt j at) [
-        | inl h ↦ lt-ltb j (at + 1) (omega arith) ∙ sym (lt-ltb j at h)
-        | inr h ↦ le-ltb j (at + 1) (omega arith) ∙ sym (le-ltb j at h)
-      ]) in
-      ap (λ x. get_or x j []) writes ∙ get_or-set_other now at j (column ++ seq ∷ []) [] ne ∙ known j ∙ sym (ap (λ b. get_or old j [] ++ cond b (seq ∷ []) []) same)
-]
 
 -- nothing lies between a place and itself, or one before it
 pub none_between : (from to j : ℕ) → to ≤ from → is_between from to j ≡ false

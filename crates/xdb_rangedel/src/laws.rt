@@ -126,6 +126,8 @@ pub fn spans_in_content()
         → newest c limit k ≡ newer (newest (entries_in c) limit k) (newest (map span (spans_in c)) limit k) }
     ensures pieces { (c : List Item) (limit : ℕ) (k : List ℕ) → newest (in_pieces c) limit k ≡ newest c limit k }
     ensures drawn { (c : List Item) → IsDrawn c (in_pieces c) }
+    ensures alike { (xs ys : List Tombstone) (limit : ℕ) (k : List ℕ) → cover_of xs k limit ≡ cover_of ys k limit
+        → newest (map span xs) limit k ≡ newest (map span ys) limit k }
 {}
 
 /// The pieces of spans are the parts from one bound to the next, each with the numbers of the spans
