@@ -1,0 +1,5 @@
+use Rattle.xdb_rangedel.proofs.NewestLaws.{image_is_one}
+use Rattle.xdb_rangedel.proofs.laws.image_is_one.Goals as goal
+
+pub returns : goal.returns
+returns c = image_is_one

@@ -1,0 +1,8 @@
+pub mod Members
+pub mod Cover
+pub mod Pieces
+pub mod Clip
+pub mod Content
+pub mod View
+pub mod Layers
+pub mod Sweep
