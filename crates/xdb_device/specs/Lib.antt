@@ -1,0 +1,4 @@
+pub mod Faults
+pub mod MemStreams
+pub mod Schedule
+pub mod Streams

@@ -1,0 +1,2 @@
+// Each public call once, and what no clause says: that calls succeed where there is memory.
+mod streams;
