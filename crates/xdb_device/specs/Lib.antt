@@ -1,4 +1,11 @@
+pub mod Counted
+pub mod DirFile
 pub mod Faults
+pub mod Files
 pub mod MemStreams
+pub mod Rig
 pub mod Schedule
+pub mod Store
 pub mod Streams
+pub mod Told
+pub mod Work
