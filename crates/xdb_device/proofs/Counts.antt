@@ -1,5 +1,5 @@
 -- Calls one after another, as their counts and their frame see them.
-use Rattle.std.proofs.Common.{◌≡◌, ℕ, ◌+◌, ◌-◌, ◌^◌, ◌<◌, ◌≤◌, List, min, refl, sym, ◌∙◌, arith}
+use Rattle.std.proofs.Common.{ℕ, ◌+◌, ◌≤◌, List, refl, ◌∙◌, arith}
 use Rattle.xdb_device.specs.Counted.{Counted, RoseWithin}
 use Rattle.xdb_device.specs.Faults.{Rose}
 

@@ -5,6 +5,7 @@ pub mod Files
 pub mod MemStreams
 pub mod Rig
 pub mod Schedule
+pub mod StdStreams
 pub mod Store
 pub mod Streams
 pub mod Told

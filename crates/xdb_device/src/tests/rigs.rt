@@ -1,12 +1,41 @@
-ghost use Rattle.std.specs.Prelude.{◌≡◌, All, vec_len};
+ghost use Rattle.std.specs.Prelude.{◌≡◌, ◌≤◌, IsErrOf};
+ghost use Rattle.xdb_device.specs.Counted.{Counted};
+ghost use Rattle.xdb_device.specs.Faults.{Rose};
+ghost use Rattle.xdb_device.specs.Told.{Removed};
 
 use super::same;
-use crate::{DevNo, Device, FaultBook, FaultShare, MemDevice, Reader, Rig, read_whole};
+use crate::{DevNo, Device, FaultBook, FaultShare, MemDevice, Reader, Rig, SureDevice, read_whole};
 use std::alloc::Global;
 use std::marker::Brand;
 use std::process::Abort;
 use std::sync::ledger::{Blank, Ledger};
 use std::test::Fail;
+
+// Work that knows nothing of rigs.
+fn clear<D: Device>(dev: &mut D, num: u64) -> Result<(), DevNo>
+    ensures counted { Counted D.faults D.misses D.frame dev.old dev.new (IsErrOf result DevNo.Failed) }
+    ensures told { Removed num result (D.told dev.old) (D.told dev.new) }
+{
+    dev.remove(num)
+}
+
+// What such work does through a rig is known of the device after it.
+fn clear_through<D: Device, L: Ledger>(
+    dev: &mut D,
+    share: FaultShare<L>,
+    num: u64,
+) -> (Result<(), DevNo>, FaultShare<L>)
+    requires { share ≡ 0 }
+    ensures later { D.faults dev.old ≤ D.faults dev.new }
+    ensures failed { IsErrOf result.0 DevNo.Failed → Rose (D.faults dev.old) (D.faults dev.new) }
+    ensures frame { D.frame dev.new ≡ D.frame dev.old }
+    ensures told { Removed num result.0 (D.told dev.old) (D.told dev.new) }
+    ensures amount { result.1 ≡ 0 }
+{
+    let mut rig = Rig::new(dev, share);
+    let answer = clear(&mut rig, num);
+    (answer, rig.into_share())
+}
 
 // A reader that knows nothing of rigs.
 fn length_read<R: Reader>(reader: &mut R, file: &R::File, alloc: Global) -> Result<usize, DevNo> {
@@ -61,6 +90,8 @@ fn run<L: Ledger>(rt: &impl Abort, alloc: Global, blank: Blank) -> Result<(), Fa
 {
     let (mut book, mut shares) = FaultBook::<L>::split(alloc, blank, 2)?;
     if let (Some(first), Some(second)) = (shares.pop(), shares.pop()) {
+        let (answer, first) = clear_through(&mut SureDevice::new(alloc), first, 7);
+        same(rt, answer, Ok(()));
         let shares = fail_twice(rt, alloc, &mut book, first, second)?;
         assert_eq!(rt; shares.len(), 2);
         book.sum(shares);
