@@ -1,1 +1,4 @@
+pub mod Counts
+pub mod Held
+pub mod Pieces
 pub mod Pushes

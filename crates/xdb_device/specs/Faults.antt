@@ -11,8 +11,12 @@ Rose before now = min (before + 1) (2 ^ 64 - 1) ≤ now
 abbrev pub one_more : ℕ → ℕ
 one_more n = if nat_lt n (2 ^ 64 - 1) then n + 1 else n
 
+-- the count after this answer
+abbrev pub raised_by : DevNo → ℕ → ℕ
+raised_by Failed n = one_more n
+raised_by Memory n = n
+
 -- the count after a call that raises it where it fails, and nowhere else
 abbrev pub raised : {A : Type 0} → Result A DevNo → ℕ → ℕ
 raised (Ok x) n = n
-raised (Err Failed) n = one_more n
-raised (Err Memory) n = n
+raised (Err cause) n = raised_by cause n

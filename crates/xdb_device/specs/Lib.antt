@@ -1,4 +1,12 @@
+pub mod Counted
+pub mod DirFile
 pub mod Faults
+pub mod Files
 pub mod MemStreams
+pub mod Rig
 pub mod Schedule
+pub mod StdStreams
+pub mod Store
 pub mod Streams
+pub mod Told
+pub mod Work

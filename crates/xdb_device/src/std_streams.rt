@@ -1,11 +1,13 @@
 // Standard input and output, as a source and a sink.
-ghost use Rattle.std.specs.Prelude.{◌≡◌, ◌≤◌, length, IfOk, OnErr};
+ghost use Rattle.std.specs.Prelude.{◌≡◌, ◌≤◌, length, take, Ok, IfOk, OnErr};
+ghost use Rattle.std.specs.Io.{appended_bytes};
+ghost use Rattle.std.specs.Io.KnownBytes.{Appends, Consumes, IsAtEnd};
+ghost use Rattle.xdb_device.specs.StdStreams.{source_faults, input_of, sink_faults, output_of};
 ghost use Rattle.xdb_device.specs.Faults.{raised};
 ghost use Rattle.xdb_device.specs.Streams.{Grew};
 
 use crate::{DevNo, Sink, Source};
 use std::io::{Read, Stdin, Stdout, Write};
-use std::marker::Model;
 
 // The most bytes that one pull reads.
 const PIECE: usize = 8192;
@@ -17,19 +19,12 @@ pub struct StdSource<R = Stdin> {
     faults: u64,
 }
 
-impl<R> Model for StdSource<R> {
-    ghost use Rattle.std.specs.Prelude.{ℕ};
-
-    ghost Value = { ℕ };
-
-    ghost view = { λ s. s.faults };
-}
-
 impl<R: Read> StdSource<R> {
     ghost use Rattle.std.specs.Prelude.{◌≡◌};
 
     pub fn new(input: R) -> Self
-        ensures { result ≡ 0 }
+        ensures faults { source_faults result ≡ 0 }
+        ensures input { input_of result ≡ input }
     {
         StdSource { input, faults: 0 }
     }
@@ -38,15 +33,20 @@ impl<R: Read> StdSource<R> {
 impl<R: Read> Source for StdSource<R> {
     ghost use Rattle.std.specs.Prelude.{None};
 
-    ghost faults = { λ s. s };
+    ghost faults = { source_faults };
 
     ghost left = { λ _. None };
 
     fn pull(&mut self, out: &mut Vec<u8>, most: usize) -> Result<usize, DevNo>
         requires { 1 ≤ most }
-        ensures counted { self.new ≡ raised result self.old }
+        ensures counted { source_faults self.new ≡ raised result (source_faults self.old) }
         ensures grew { IfOk result (λ n. Grew n out.old.items out.new.items × (n ≤ most)) }
         ensures err { OnErr result (out.new.items ≡ out.old.items) }
+
+        // What it adds is what the reader gave; 0 only at its end.
+        ensures given { IfOk result (λ _. Consumes (R.remaining (input_of self.old)) (R.remaining (input_of self.new))
+            (appended_bytes out.old.items out.new.items)) }
+        ensures end { result ≡ Ok 0 → IsAtEnd (R.remaining (input_of self.new)) }
     {
         let room = most.min(PIECE);
         // Room first, so that no byte is read and then lost.
@@ -74,19 +74,12 @@ pub struct StdSink<W = Stdout> {
     faults: u64,
 }
 
-impl<W> Model for StdSink<W> {
-    ghost use Rattle.std.specs.Prelude.{ℕ};
-
-    ghost Value = { ℕ };
-
-    ghost view = { λ s. s.faults };
-}
-
 impl<W: Write> StdSink<W> {
     ghost use Rattle.std.specs.Prelude.{◌≡◌};
 
     pub fn new(output: W) -> Self
-        ensures { result ≡ 0 }
+        ensures faults { sink_faults result ≡ 0 }
+        ensures output { output_of result ≡ output }
     {
         StdSink { output, faults: 0 }
     }
@@ -95,15 +88,18 @@ impl<W: Write> StdSink<W> {
 impl<W: Write> Sink for StdSink<W> {
     ghost use Rattle.std.specs.Prelude.{None};
 
-    ghost faults = { λ s. s };
+    ghost faults = { sink_faults };
 
     ghost written = { λ _. None };
 
     // A write that takes nothing is a failure too: what is left would never go.
     fn push(&mut self, bytes: &[u8]) -> Result<usize, DevNo>
         requires { 1 ≤ length bytes.now }
-        ensures counted { self.new ≡ raised result self.old }
+        ensures counted { sink_faults self.new ≡ raised result (sink_faults self.old) }
         ensures count { IfOk result (λ n. (1 ≤ n) × (n ≤ length bytes.now)) }
+
+        // What it says that it wrote is what the writer took.
+        ensures taken { IfOk result (λ n. Appends (W.contents (output_of self.old)) (W.contents (output_of self.new)) (take n bytes.now)) }
     {
         match self.output.write(bytes) {
             Ok(count) if count > 0 => Ok(count),

@@ -1,3 +1,4 @@
+use super::same;
 use crate::{
     DevNo, MemSink, MemSource, ShortWrite, Sink, Source, StdSink, StdSource, read_up_to, write_all,
 };
@@ -25,7 +26,7 @@ fn reads_to_the_end_to_a_limit_or_to_a_failure(rt: HostRuntime) -> Result<(), Fa
             want,
             "at {most}, {fails}"
         );
-        assert_eq!(rt; out.as_slice(), got, "at {most}, {fails}");
+        same(&rt, out.as_slice(), got);
     }
     Ok(())
 }
@@ -35,12 +36,12 @@ fn one_pull_after_another(rt: HostRuntime) -> Result<(), Fail> {
     let alloc = rt.alloc();
     let mut source = MemSource::new(b"abcde".to_vec(alloc)?, [2].to_vec(alloc)?);
     let mut out = Vec::new(alloc);
-    assert_eq!(rt; source.pull(&mut out, 2), Ok(2));
-    assert_eq!(rt; source.pull(&mut out, 2), Err(DevNo::Failed));
-    assert_eq!(rt; source.pull(&mut out, 2), Ok(2));
-    assert_eq!(rt; source.pull(&mut out, 2), Ok(1));
-    assert_eq!(rt; source.pull(&mut out, 2), Ok(0));
-    assert_eq!(rt; out.as_slice(), b"abcde".as_slice());
+    same(&rt, source.pull(&mut out, 2), Ok(2));
+    same(&rt, source.pull(&mut out, 2), Err(DevNo::Failed));
+    same(&rt, source.pull(&mut out, 2), Ok(2));
+    same(&rt, source.pull(&mut out, 2), Ok(1));
+    same(&rt, source.pull(&mut out, 2), Ok(0));
+    same(&rt, out.as_slice(), b"abcde".as_slice());
     Ok(())
 }
 
@@ -61,13 +62,13 @@ fn writes_all_or_tells_how_much(rt: HostRuntime) -> Result<(), Fail> {
     ];
     for (most, fails, want, got) in cases {
         let mut sink = MemSink::new(alloc, most, [fails].to_vec(alloc)?);
-        assert_eq!(rt; write_all(&mut sink, TEXT), want, "at {most}, {fails}");
-        assert_eq!(rt; sink.bytes(), got, "at {most}, {fails}");
+        same(&rt, write_all(&mut sink, TEXT), want);
+        same(&rt, sink.bytes(), got);
     }
     let mut sink = MemSink::new(alloc, 3, [1].to_vec(alloc)?);
-    assert_eq!(rt; write_all(&mut sink, b""), Ok(()));
-    assert_eq!(rt; sink.push(b"ab"), Err(DevNo::Failed));
-    assert_eq!(rt; sink.push(b"abcd"), Ok(3));
+    same(&rt, write_all(&mut sink, b""), Ok(()));
+    same(&rt, sink.push(b"ab"), Err(DevNo::Failed));
+    same(&rt, sink.push(b"abcd"), Ok(3));
     Ok(())
 }
 
@@ -107,21 +108,25 @@ fn a_broken_pipe_is_a_failure(rt: HostRuntime) -> Result<(), Fail> {
     let alloc = rt.alloc();
     let mut source = StdSource::new(Broken { left: 2 });
     let mut out = Vec::new(alloc);
-    assert_eq!(rt; read_up_to(&mut source, &mut out, 100), Err(DevNo::Failed));
-    assert_eq!(rt; out.as_slice(), [7, 7].as_slice());
+    same(
+        &rt,
+        read_up_to(&mut source, &mut out, 100),
+        Err(DevNo::Failed),
+    );
+    same(&rt, out.as_slice(), [7, 7].as_slice());
     let mut sink = StdSink::new(Broken { left: 1 });
     let short = ShortWrite {
         cause: DevNo::Failed,
         count: 3,
     };
-    assert_eq!(rt; write_all(&mut sink, TEXT), Err(short));
+    same(&rt, write_all(&mut sink, TEXT), Err(short));
     Ok(())
 }
 
 #[test]
 fn standard_output_is_a_sink(rt: HostRuntime) -> Result<(), Fail> {
     let mut sink = StdSink::new(rt.stdout());
-    assert_eq!(rt; write_all(&mut sink, b"written\n"), Ok(()));
+    same(&rt, write_all(&mut sink, b"written\n"), Ok(()));
     let _ = StdSource::new(rt.stdin());
     Ok(())
 }
