@@ -1,3 +1,4 @@
+-- The laws, by topic.
 pub mod MemberLaws
 pub mod NewestLaws
 pub mod LayerLaws

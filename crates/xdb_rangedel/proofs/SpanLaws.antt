@@ -10,8 +10,8 @@ use Rattle.xdb_key.proofs.OrderLaws.{upto_trans, below_upto}
 use Rattle.xdb_rangedel.specs.Members.{Has}
 use Rattle.xdb_rangedel.specs.Cover.{greater, cover_by, cover_of}
 use Rattle.xdb_rangedel.specs.Pieces.{pieces}
-use Rattle.xdb_rangedel.specs.Content.{Item, entry, span, Mark, here, rank, said, mark, is_seen, mark_at, newer, newest, entries_in, spans_in, in_pieces, entry_of, content_of}
-use Rattle.xdb_rangedel.specs.Layers.{IsDrawn, deleted_at}
+use Rattle.xdb_rangedel.specs.Content.{Item, deleted_at, entry, span, Mark, here, rank, said, mark, is_seen, mark_at, newer, newest, entries_in, spans_in, in_pieces, entry_of, content_of}
+use Rattle.xdb_rangedel.specs.Layers.{IsDrawn}
 use Rattle.xdb_rangedel.proofs.MemberLaws.{Has-append_cases, Has-from_map}
 use Rattle.xdb_rangedel.proofs.NewestLaws.{newer-rises, newer-stays, newer_assoc, newest-append}
 use Rattle.xdb_rangedel.proofs.CoverLaws.{cover_of-pieces}

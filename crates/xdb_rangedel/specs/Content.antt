@@ -55,6 +55,10 @@ pub record Mark : Type 0 where
 abbrev pub mark : Item → Mark
 mark i = record { place = rank i; says = said i }
 
+-- the mark of a span with the number
+abbrev pub deleted_at : ℕ → Mark
+deleted_at seq = record { place = 2 * seq; says = deleted }
+
 -- the item speaks of the key, at a number below the limit
 abbrev pub is_seen : ℕ → List ℕ → Item → Bool
 is_seen limit k i = here k i && nat_lt (seq_of i) limit
@@ -90,7 +94,7 @@ value_of nothing = None
 abbrev pub IsImage : List Item → ℕ → FinMap key_cmp (List ℕ) → Type 0
 IsImage c limit m = (k : List ℕ) → get m k ≡ value_of (verdict c limit k)
 
--- two entries of one key at one number say the same
+-- two entries of one key at one number say the same; an entry that stands twice does no harm
 abbrev pub IsClear : List Item → Type 0
 IsClear c = (key : List ℕ) (seq : ℕ) (v w : Option (List ℕ)) → Has c (entry key seq v) → Has c (entry key seq w) → v ≡ w
 

@@ -1,7 +1,7 @@
 -- How contents stand to one another.
-use Rattle.std.specs.Prelude.{◌≡◌, ℕ, ◌*◌, ◌<◌, ◌≤◌, List, IsTrue}
+use Rattle.std.specs.Prelude.{◌≡◌, ℕ, ◌<◌, ◌≤◌, List, IsTrue}
 use Rattle.xdb_rangedel.specs.Members.{Has}
-use Rattle.xdb_rangedel.specs.Content.{Item, Verdict, found, deleted, nothing, Mark, seq_of, here, rank, said, is_seen}
+use Rattle.xdb_rangedel.specs.Content.{Item, Verdict, found, deleted, nothing, seq_of, here, rank, said, is_seen}
 
 -- all that the upper content holds at the key has greater numbers than what the lower one holds there
 abbrev pub IsNewerAt : List ℕ → List Item → List Item → Type 0
@@ -42,7 +42,3 @@ IsDrawn old new =
 -- the content holds nothing at the key
 abbrev pub IsSilentAt : List ℕ → List Item → Type 0
 IsSilentAt k c = (i : Item) → Has c i → IsTrue (here k i) → ⊥
-
--- the mark of a span with the number
-abbrev pub deleted_at : ℕ → Mark
-deleted_at seq = record { place = 2 * seq; says = deleted }

@@ -1,3 +1,4 @@
+-- The definitions, from what a list holds to how contents stand to one another.
 pub mod Members
 pub mod Cover
 pub mod Pieces

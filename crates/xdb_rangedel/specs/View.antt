@@ -1,4 +1,5 @@
--- A view: the part of a content in a range, where a synthetic number may stand for all numbers.
+-- A view: the part of a content in a range, where a synthetic number may stand for all numbers. Items that are
+-- equal then count as one, since a content is known by what it has.
 use Rattle.std.specs.Prelude.{ℕ, List, map, Option, Some, None, ◌==◌, if◌then◌else◌}
 use Rattle.std.specs.List.{filter_map}
 use Rattle.std.specs.Option.{option_map}

@@ -10,9 +10,9 @@ ghost use Rattle.xdb_rangedel.specs.Members.{Has, SameMembers};
 ghost use Rattle.xdb_rangedel.specs.Cover.{cover_of};
 ghost use Rattle.xdb_rangedel.specs.Pieces.{pieces, is_ordered, IsPiece, AreFragments};
 ghost use Rattle.xdb_rangedel.specs.Clip.{parts_before, parts_from, parts_in};
-ghost use Rattle.xdb_rangedel.specs.Content.{Item, entry, span, Mark, here, mark, is_seen, newer, newest, verdict, IsImage, IsClear, entries_in, spans_in, in_pieces, entry_of, content_of};
+ghost use Rattle.xdb_rangedel.specs.Content.{Item, entry, span, Mark, here, mark, deleted_at, is_seen, newer, newest, verdict, IsImage, IsClear, entries_in, spans_in, in_pieces, entry_of, content_of};
 ghost use Rattle.xdb_rangedel.specs.View.{restricted};
-ghost use Rattle.xdb_rangedel.specs.Layers.{IsGreatest, IsAllBelow, IsAllFrom, IsSilentAt, IsNewerAt, IsOverAt, over, IsDrawn, deleted_at};
+ghost use Rattle.xdb_rangedel.specs.Layers.{IsGreatest, IsAllBelow, IsAllFrom, IsSilentAt, IsNewerAt, IsOverAt, over, IsDrawn};
 
 /// The newest of joined contents is the newer of their newest.
 pub fn newest_of_joined()

@@ -54,7 +54,7 @@ fn all_ends(alloc: Global, spans: &[Span]) -> Result<Vec<Bound>, AllocError>
     ensures ends { IfOk result (λ made. made.items ≡ ends spans.now) }
     ensures ordered { OnOk result (All (λ t. IsTrue (is_ordered t)) spans.now) }
 {
-    let mut bounds = Vec::with_capacity(alloc, spans.len())?;
+    let mut bounds = Vec::with_capacity(alloc, spans.len().saturating_mul(2))?;
     for span in spans {
         bounds.push(span.range().lo().copy()?)?;
         bounds.push(span.range().hi().copy()?)?;

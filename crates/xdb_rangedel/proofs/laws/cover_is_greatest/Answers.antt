@@ -1,3 +1,4 @@
+-- The law `cover_is_greatest`, by its lemmas.
 use Rattle.xdb_rangedel.proofs.CoverLaws.{cover_of-None, cover_of-Some, cover_of_unordered}
 use Rattle.xdb_rangedel.proofs.laws.cover_is_greatest.Goals as goal
 

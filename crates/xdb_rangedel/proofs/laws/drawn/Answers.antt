@@ -1,3 +1,4 @@
+-- The law `drawn`, by its lemmas.
 use Rattle.xdb_rangedel.proofs.LayerLaws.{drawn_entry, drawn_clear, drawn_newer, drawn_trans}
 use Rattle.xdb_rangedel.proofs.laws.drawn.Goals as goal
 

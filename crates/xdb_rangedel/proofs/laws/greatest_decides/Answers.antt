@@ -1,3 +1,4 @@
+-- The law `greatest_decides`, by its lemmas.
 use Rattle.xdb_rangedel.proofs.NewestLaws.{newest-None, newest-Some, newest-greatest}
 use Rattle.xdb_rangedel.proofs.laws.greatest_decides.Goals as goal
 

@@ -1,3 +1,4 @@
+-- The law `layers`, by its lemmas.
 use Rattle.xdb_rangedel.proofs.LayerLaws.{newer-over, verdict_layered, newest_layers_swapped, verdict_replaced}
 use Rattle.xdb_rangedel.proofs.laws.layers.Goals as goal
 

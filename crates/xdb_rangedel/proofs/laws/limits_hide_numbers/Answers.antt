@@ -1,3 +1,4 @@
+-- The law `limits_hide_numbers`, by its lemmas.
 use Rattle.xdb_rangedel.proofs.NewestLaws.{newest_raised, newest_unseen}
 use Rattle.xdb_rangedel.proofs.laws.limits_hide_numbers.Goals as goal
 

@@ -1,3 +1,4 @@
+-- The law `pieces_lie_between_bounds`, by its lemmas.
 use Rattle.std.specs.Bool.{IsTrue}
 use Rattle.xdb_rangedel.specs.Pieces.{is_ordered}
 use Rattle.xdb_rangedel.proofs.FragmentLaws.{All-at_Has}

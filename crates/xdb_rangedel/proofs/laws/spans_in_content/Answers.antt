@@ -1,3 +1,4 @@
+-- The law `spans_in_content`, by its lemmas.
 use Rattle.xdb_rangedel.proofs.SpanLaws.{newest-spans, newest_apart, newest-in_pieces, drawn-in_pieces, newest_spans_along}
 use Rattle.xdb_rangedel.proofs.laws.spans_in_content.Goals as goal
 

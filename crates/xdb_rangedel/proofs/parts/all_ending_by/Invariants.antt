@@ -1,3 +1,4 @@
+-- What the loop of `all_ending_by` keeps.
 use Rattle.std.proofs.Common.{◌≡◌, map, take}
 use Rattle.xdb_rangedel.specs.Clip.{ending_by}
 use Rattle.xdb_rangedel.proofs.parts.all_ending_by.Given as goal

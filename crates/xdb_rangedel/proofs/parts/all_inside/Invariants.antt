@@ -1,3 +1,4 @@
+-- What the loop of `all_inside` keeps.
 use Rattle.std.proofs.Common.{◌≡◌, map, take}
 use Rattle.xdb_rangedel.specs.Clip.{starting_from, ending_by}
 use Rattle.xdb_rangedel.proofs.parts.all_inside.Given as goal

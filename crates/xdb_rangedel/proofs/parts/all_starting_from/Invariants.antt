@@ -1,3 +1,4 @@
+-- What the loop of `all_starting_from` keeps.
 use Rattle.std.proofs.Common.{◌≡◌, map, take}
 use Rattle.xdb_rangedel.specs.Clip.{starting_from}
 use Rattle.xdb_rangedel.proofs.parts.all_starting_from.Given as goal

@@ -1,3 +1,4 @@
+-- What is left to answer of `cover`.
 use Rattle.std.proofs.Common.{◌≡◌, true, false, Some, sym, ◌∙◌, ap}
 use Rattle.xdb_key.specs.Bounds.{holds}
 use Rattle.xdb_rangedel.proofs.PartLaws.{cover_found, cover_not_held, cover_past}

@@ -1,3 +1,4 @@
+-- What is left to answer of `first_from`.
 use Rattle.std.proofs.Common.{rules}
 use Rattle.std.proofs.lemmas.List.Sorted.{IsPartitionPoint-from_clause}
 use Rattle.xdb_rangedel.specs.Sweep.{starts_before}

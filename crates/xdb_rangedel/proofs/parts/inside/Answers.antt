@@ -1,3 +1,4 @@
+-- What is left to answer of `inside`.
 use Rattle.std.proofs.Common.{◌≡◌, sym, subst, IfOk}
 use Rattle.std.proofs.lemmas.Result.{IfOk-weaker}
 use Rattle.xdb_rangedel.specs.Pieces.{AreFragments}

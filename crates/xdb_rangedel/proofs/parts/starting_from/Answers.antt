@@ -1,3 +1,4 @@
+-- What is left to answer of `starting_from`.
 use Rattle.std.proofs.Common.{◌≡◌, true, false, ap, ◌∙◌}
 use Rattle.xdb_key.specs.Order.{is_below}
 use Rattle.xdb_rangedel.proofs.PartLaws.{starting_from-whole, starting_from-made}

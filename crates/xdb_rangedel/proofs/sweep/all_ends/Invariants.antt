@@ -1,3 +1,4 @@
+-- What the loop of `all_ends` keeps.
 use Rattle.std.proofs.Common.{◌≡◌, take}
 use Rattle.std.specs.Bool.{IsTrue}
 use Rattle.std.specs.List.{All}

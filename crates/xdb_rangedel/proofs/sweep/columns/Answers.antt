@@ -1,3 +1,4 @@
+-- What is left to answer of `columns`.
 use Rattle.xdb_rangedel.proofs.ColumnLaws.{written_all}
 use Rattle.xdb_rangedel.proofs.sweep.columns.Goals as goal
 

@@ -1,3 +1,4 @@
+-- What the loop of `columns` keeps.
 use Rattle.xdb_rangedel.proofs.ColumnLaws.{Written}
 use Rattle.xdb_rangedel.proofs.sweep.columns.Given as goal
 

@@ -1,3 +1,4 @@
+-- What the loop of `empty_columns` keeps.
 use Rattle.std.proofs.Common.{◌≡◌, [], replicate}
 use Rattle.xdb_rangedel.proofs.sweep.empty_columns.Given as goal
 

@@ -1,3 +1,4 @@
+-- What is left to answer of `fragments`.
 use Rattle.std.proofs.Common.{◌≡◌, ◌-◌, length, map, IfOk, sym, subst, arith}
 use Rattle.std.proofs.lemmas.Result.{IfOk-weaker}
 use Rattle.xdb_rangedel.specs.Members.{SameMembers}

@@ -1,3 +1,4 @@
+-- What is left to answer of `lay`.
 use Rattle.std.proofs.Common.{◌≡◌, ◌-◌, length, ◌∙◌, ap, arith}
 use Rattle.xdb_key.specs.Order.{is_below}
 use Rattle.std.proofs.lemmas.List.{get_or_default}

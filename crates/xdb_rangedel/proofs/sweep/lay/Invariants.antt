@@ -1,3 +1,4 @@
+-- What the loop of `lay` keeps.
 use Rattle.std.proofs.Common.{◌≡◌, ◌-◌, ◌≤◌, max, length}
 use Rattle.xdb_rangedel.specs.Sweep.{laid}
 use Rattle.xdb_rangedel.proofs.sweep.lay.Given as goal

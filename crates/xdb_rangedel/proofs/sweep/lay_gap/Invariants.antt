@@ -1,3 +1,4 @@
+-- What the loop of `lay_gap` keeps.
 use Rattle.std.proofs.Common.{◌≡◌, ◌++◌, take}
 use Rattle.xdb_rangedel.specs.Sweep.{over_gap}
 use Rattle.xdb_rangedel.proofs.sweep.lay_gap.Given as goal

@@ -1,3 +1,4 @@
+-- What is left to answer of `place`.
 use Rattle.std.proofs.Common.{rules}
 use Rattle.std.proofs.lemmas.List.Sorted.{IsPartitionPoint-from_clause}
 use Rattle.xdb_key.specs.Order.{is_below}

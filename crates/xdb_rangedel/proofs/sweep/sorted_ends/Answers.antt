@@ -1,3 +1,4 @@
+-- What is left to answer of `sorted_ends`.
 use Rattle.std.proofs.Common.{subst, sym}
 use Rattle.std.specs.Cmp.Lexicographic.{texts_ties, nat_list_cmp_total}
 use Rattle.std.proofs.lemmas.List.Filters.{dedup_is}

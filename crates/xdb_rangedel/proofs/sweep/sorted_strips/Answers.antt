@@ -1,3 +1,4 @@
+-- What is left to answer of `sorted_strips`.
 use Rattle.std.proofs.Common.{length, subst}
 use Rattle.std.proofs.lemmas.List.Sorted.{All-permutation}
 use Rattle.xdb_rangedel.specs.Members.{SameMembers}

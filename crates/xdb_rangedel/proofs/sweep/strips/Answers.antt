@@ -1,3 +1,4 @@
+-- What is left to answer of `strips`.
 use Rattle.std.proofs.Common.{◌∙◌, ap}
 use Rattle.xdb_rangedel.specs.Sweep.{place_of}
 use Rattle.xdb_rangedel.proofs.StripLaws.{strip_pushed, fits_pushed, same_strip}

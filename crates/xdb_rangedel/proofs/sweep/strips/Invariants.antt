@@ -1,3 +1,4 @@
+-- What the loop of `strips` keeps.
 use Rattle.std.proofs.Common.{◌≡◌, take, map, length}
 use Rattle.std.specs.List.{All}
 use Rattle.xdb_rangedel.specs.Sweep.{strip_of, FitsGaps}

@@ -1,3 +1,4 @@
+-- What is left to answer of `write`.
 use Rattle.std.proofs.Common.{get_or, []}
 use Rattle.xdb_rangedel.proofs.StripLaws.{write_all}
 use Rattle.xdb_rangedel.proofs.sweep.write.Goals as goal

@@ -1,3 +1,4 @@
+-- What the loop of `write` keeps.
 use Rattle.std.proofs.Common.{◌≡◌, ◌≤◌, max, ℕ, cond, [], ◌∷◌, ◌++◌, get_or}
 use Rattle.xdb_rangedel.specs.Sweep.{is_between}
 use Rattle.xdb_rangedel.proofs.sweep.write.Given as goal

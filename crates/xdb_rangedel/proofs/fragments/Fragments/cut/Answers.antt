@@ -1,3 +1,4 @@
+-- What is left to answer of `cut`.
 use Rattle.std.proofs.Common.{ap, ◌∙◌}
 use Rattle.xdb_rangedel.specs.Cover.{cover_of}
 use Rattle.xdb_rangedel.specs.Clip.{parts_before, parts_from}

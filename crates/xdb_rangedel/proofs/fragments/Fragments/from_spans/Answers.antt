@@ -1,3 +1,4 @@
+-- What is left to answer of `from_spans`.
 use Rattle.std.proofs.Common.{◌∙◌}
 use Rattle.xdb_rangedel.specs.Pieces.{pieces}
 use Rattle.xdb_rangedel.proofs.CoverLaws.{cover_of_unordered, cover_of-pieces}
