@@ -1,7 +1,8 @@
 -- A history longer by one note.
 use Rattle.std.proofs.Common.{◌≡◌, List, [], ◌∷◌, ◌++◌, refl}
 use Rattle.xdb_plain.specs.State.{Plain}
-use Rattle.xdb_plain.specs.Steps.{MayStand, after}
+use Rattle.xdb_plain.specs.Steps.{MayStand}
+use Rattle.xdb_plain.specs.Changes.{after}
 use Rattle.xdb_plain.specs.Legal.{after_all, Legal, Right, AnswersRight}
 use Rattle.xdb_plain.specs.declared.note.Note.{Note}
 

@@ -1,0 +1,112 @@
+-- Runs of a script by workers: each client's lines have their blocks in order among the notes by that client.
+use Rattle.std.specs.Prelude.{◌≡◌, ℕ, ◌+◌, ◌≤◌, Bool, true, false, not, ◌&&◌, ◌||◌, List, [], ◌∷◌, ◌++◌, length, filter, take, drop, reverse, Option, Some, None, ◌==◌, nat_lt, is_none, IsTrue, if◌then◌else◌}
+use Rattle.std.specs.List.{find, list_any, list_all}
+use Rattle.xdb_edit.specs.Plans.{pick}
+use Rattle.xdb_plain.specs.Counts.{dead}
+use Rattle.xdb_plain.specs.Edits.{is_empty}
+use Rattle.xdb_plain.specs.Legal.{after_all}
+use Rattle.xdb_plain.specs.Replies.{same_by}
+use Rattle.xdb_plain.specs.Runs.{IsBlock, block_len, run_at, first_run, is_not_yet, is_no_such}
+use Rattle.xdb_plain.specs.Scripts.{tables_below}
+use Rattle.xdb_plain.specs.State.{Plain, opening}
+use Rattle.xdb_plain.specs.Steps.{is_db}
+use Rattle.xdb_plain.specs.Tables.{TableOps}
+use Rattle.xdb_plain.specs.declared.act.Act.{Act}
+use Rattle.xdb_plain.specs.declared.act.Act.TheVariants as act
+use Rattle.xdb_plain.specs.declared.act.By.{By}
+use Rattle.xdb_plain.specs.declared.act.By.TheVariants.{Client, Db}
+use Rattle.xdb_plain.specs.declared.act.StatusForm.{StatusForm}
+use Rattle.xdb_plain.specs.declared.act.StatusForm.TheVariants as status_form
+use Rattle.xdb_plain.specs.declared.reply.Reply.{Reply}
+use Rattle.xdb_plain.specs.declared.reply.Reply.TheVariants as reply
+use Rattle.xdb_plain.specs.declared.note.Note.{Note}
+use Rattle.xdb_plain.specs.declared.script.Line.{Line}
+
+abbrev pub notes_by : By → List Note → List Note
+notes_by by notes = filter (λ note. same_by note.by by) notes
+
+-- it is said by this one, or by none
+abbrev pub is_said : By → Option By → Bool
+is_said by None = true
+is_said by (Some other) = same_by other by
+
+-- the lines of a client, and those that define tables for all
+abbrev pub lines_by : By → List Line → List Line
+lines_by by lines = filter (λ line. is_said by line.by) lines
+
+-- The notes are the blocks of a client's lines, in order. Such a block depends on no state, so the tables are all
+-- that is carried on.
+abbrev pub AreClientBlocks : List TableOps → List Line → List Note → Type 0
+AreClientBlocks tables [] notes = notes ≡ []
+AreClientBlocks tables (line ∷ lines) notes =
+    let r = run_at (opening 1 1) [] [] tables in
+    let len = block_len r line.by line.cmd notes in
+    IsBlock r line.by line.cmd (take len notes) × AreClientBlocks (tables_below tables line.cmd) lines (drop len notes)
+
+abbrev pub is_work : Act → Bool
+is_work (act.Build job) = true
+is_work (act.Work ask) = true
+is_work _ = false
+
+abbrev pub is_install : Act → Bool
+is_install (act.Install load) = true
+is_install _ = false
+
+-- workers look for no work that isn't there, and put and settle only what was delivered
+abbrev pub is_due_reply : Note → Bool
+is_due_reply note = not (is_work note.act && is_no_such note.reply) && (is_install note.act || not (is_not_yet note.reply))
+
+-- what a flush or a compaction goes by
+abbrev pub is_upkeep : Act → Bool
+is_upkeep act.FlushTake = true
+is_upkeep (act.CompactTake which) = true
+is_upkeep (act.Build job) = true
+is_upkeep (act.Put job) = true
+is_upkeep _ = false
+
+abbrev pub is_upkeep_failure : Reply → Bool
+is_upkeep_failure reply.Fault = true
+is_upkeep_failure reply.Memory = true
+is_upkeep_failure reply.Spent = true
+is_upkeep_failure (reply.Damaged backing at) = true
+is_upkeep_failure _ = false
+
+-- no flush and no compaction is left to do
+pub record IsQuiet (p : Plain) : Type 0 where
+  pub jobs : p.jobs ≡ []
+  pub sealed : p.sealed ≡ []
+  pub active : IsTrue (nat_lt (length p.active.ops) 256)
+  pub plan : pick p.current.levels [] ≡ None
+
+-- the first note of a flush or a compaction is a failure, and no client's note stands before it
+abbrev pub begins_failed : List Note → Bool
+begins_failed [] = false
+begins_failed (note ∷ notes) = is_db note.by && (if is_upkeep note.act then is_upkeep_failure note.reply else begins_failed notes)
+
+-- the last flush or compaction failed, behind all that clients did
+abbrev pub ends_failed : List Note → Bool
+ends_failed notes = begins_failed (reverse notes)
+
+abbrev pub is_await : Act → Bool
+is_await (act.Status name status_form.Await) = true
+is_await _ = false
+
+-- a client was told to wait
+abbrev pub is_wait : Act → Reply → Bool
+is_wait a (reply.Waits group) = true
+is_wait a (reply.Pinned group) = is_await a
+is_wait a _ = false
+
+abbrev pub is_failure : Reply → Bool
+is_failure reply.Fault = true
+is_failure reply.Stuck = true
+is_failure reply.Memory = true
+is_failure (reply.Damaged backing at) = true
+is_failure _ = false
+
+pub record IsThreadsOf (first_seq first_file : ℕ) (lines : List Line) (notes : List Note) : Type 0 where
+  pub clients : (client : ℕ) → 1 ≤ client → client ≤ 16 → AreClientBlocks [] (lines_by (Client client) lines) (notes_by (Client client) notes)
+  pub clean : dead (after_all (opening first_seq first_file) notes) ≡ []
+  pub due_replies : IsTrue (list_all is_due_reply notes)
+  pub quiet : ends_failed notes ≡ false → IsQuiet (after_all (opening first_seq first_file) notes)
+  pub few_waits : length (filter (λ note. is_wait note.act note.reply) notes) ≤ length (filter (λ note. is_failure note.reply) notes)
