@@ -261,6 +261,13 @@ AreBlocks r (line ∷ lines) notes =
     let len = block_len r line.by line.cmd notes in
     IsBlock r line.by line.cmd (take len notes) × AreBlocks (run_after r line.cmd (take len notes)) lines (drop len notes)
 
+-- the run behind the lines
+abbrev pub run_over : Run → List Line → List Note → Run
+run_over r [] notes = r
+run_over r (line ∷ lines) notes =
+    let len = block_len r line.by line.cmd notes in
+    run_over (run_after r line.cmd (take len notes)) lines (drop len notes)
+
 -- how many notes are in the blocks of the lines
 abbrev pub blocks_len : Run → List Line → List Note → ℕ
 blocks_len r [] notes = 0

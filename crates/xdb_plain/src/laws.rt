@@ -1,10 +1,15 @@
 //! Laws of the definitions, each a function that does nothing.
-ghost use Rattle.std.specs.Prelude.{◌≡◌, ◌++◌, ◌∷◌, [], List};
-ghost use Rattle.xdb_plain.specs.State.{Plain};
+ghost use Rattle.std.specs.Prelude.{◌≡◌, ◌++◌, ◌∷◌, [], ℕ, List, true, false};
+ghost use Rattle.xdb_plain.specs.State.{Plain, opening};
 ghost use Rattle.xdb_plain.specs.Changes.{after};
 ghost use Rattle.xdb_plain.specs.Steps.{MayStand};
 ghost use Rattle.xdb_plain.specs.Legal.{after_all, Legal, Right, AnswersRight};
+ghost use Rattle.xdb_plain.specs.Replies.{same_by};
+ghost use Rattle.xdb_plain.specs.Runs.{Run, first_run, run_after, run_over, IsBlock, AreBlocks, IsDrain, IsRunOf};
+ghost use Rattle.xdb_plain.specs.Workers.{notes_by};
+ghost use Rattle.xdb_plain.specs.declared.act.By.{By};
 ghost use Rattle.xdb_plain.specs.declared.note.Note.{Note};
+ghost use Rattle.xdb_plain.specs.declared.script.Line.{Line};
 
 /// A history goes on by one note that may stand.
 pub fn history_goes_on()
@@ -14,4 +19,28 @@ pub fn history_goes_on()
         → Right p notes → MayStand (after_all p notes) note → AnswersRight (after_all p notes) note.act note.reply
         → Right p (notes ++ note ∷ []) }
     ensures legal { (p : Plain) (notes : List Note) → Right p notes → Legal p notes }
+{}
+
+/// A run goes on by one line and its block, and ends with the drain.
+pub fn run_goes_on()
+    ensures blocks { (r : Run) (lines : List Line) (notes : List Note) (line : Line) (block : List Note)
+        → AreBlocks r lines notes → IsBlock (run_over r lines notes) line.by line.cmd block
+        → AreBlocks r (lines ++ line ∷ []) (notes ++ block) }
+    ensures behind { (r : Run) (lines : List Line) (notes : List Note) (line : Line) (block : List Note)
+        → AreBlocks r lines notes → IsBlock (run_over r lines notes) line.by line.cmd block
+        → run_over r (lines ++ line ∷ []) (notes ++ block) ≡ run_after (run_over r lines notes) line.cmd block }
+    ensures state { (r : Run) (lines : List Line) (notes : List Note)
+        → AreBlocks r lines notes → (run_over r lines notes).plain ≡ after_all r.plain notes }
+    ensures ends { (first_seq first_file : ℕ) (lines : List Line) (notes drained : List Note)
+        → AreBlocks (first_run (opening first_seq first_file)) lines notes
+        → IsDrain (after_all (opening first_seq first_file) notes) drained
+        → IsRunOf first_seq first_file lines (notes ++ drained) }
+{}
+
+/// A note belongs to the part of the one who made it, and leaves every other part.
+pub fn part_goes_on()
+    ensures same { (by : By) (notes : List Note) (note : Note) → same_by note.by by ≡ true
+        → notes_by by (notes ++ note ∷ []) ≡ notes_by by notes ++ note ∷ [] }
+    ensures other { (by : By) (notes : List Note) (note : Note) → same_by note.by by ≡ false
+        → notes_by by (notes ++ note ∷ []) ≡ notes_by by notes }
 {}

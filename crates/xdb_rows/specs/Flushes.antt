@@ -1,23 +1,28 @@
 -- Histories with flushes, removals and compactions.
-use Rattle.std.specs.Prelude.{ℕ, List, [], ◌∷◌, ◌++◌, Option, Some, None, codes}
+use Rattle.std.specs.Prelude.{ℕ, ◌-◌, ◌^◌, true, false, List, [], ◌∷◌, ◌++◌, map, replicate, Option, Some, None, codes}
+use Rattle.std.specs.Fmt.{decimal}
+use Rattle.std.specs.List.{range_with_len}
+use Rattle.xdb_key.specs.Bounds.{successor}
 use Rattle.xdb_key.specs.declared.op.Op.{Op}
 use Rattle.xdb_key.specs.declared.op.Op.TheVariants.{Set, Del, DelSpan}
+use Rattle.xdb_key.specs.declared.state.SnapState.TheVariants as state
 use Rattle.xdb_meta.specs.Table.{Table}
 use Rattle.xdb_edit.specs.Changes.{changes}
+use Rattle.xdb_edit.specs.Versions.{no_tables}
+use Rattle.xdb_plain.specs.Tables.{TableOps, table_ops}
 use Rattle.xdb_plain.specs.declared.act.Act.TheVariants.{Commit, Seal, FlushTake, CompactTake, Put, Build, Work, LoadOpen, LoadKept, Install, Snap, Drop, Status, Cursor, Shut, Ask, Settle, Reap, Remove, Show}
 use Rattle.xdb_plain.specs.declared.act.ShowWhat.TheVariants as show
+use Rattle.xdb_plain.specs.declared.act.StatusForm.TheVariants as status_form
+use Rattle.xdb_plain.specs.declared.act.Which.TheVariants.{Auto}
 use Rattle.xdb_plain.specs.declared.answer.Answer.TheVariants.{Value, Absent, Found, Pair, End}
 use Rattle.xdb_plain.specs.declared.note.HoldNote.TheVariants.{Hold, Release}
 use Rattle.xdb_plain.specs.declared.note.Note.{Note}
 use Rattle.xdb_plain.specs.declared.question.Question.TheVariants.{Get, Scan, RScan, Move}
+use Rattle.xdb_plain.specs.declared.question.Step.TheVariants.{First, Last, Next, Prev, Seek, SeekLt}
 use Rattle.xdb_plain.specs.declared.reply.Reply.TheVariants as reply
-use Rattle.xdb_rows.specs.Notes.{c1, c2, db, holding, changing, trying, from_to, from_upto, file_table, loaded_table, half_of, put, del, delspan, batch, read, get, put_flush, flushed, excise, install, l0, compact_l0}
+use Rattle.xdb_rows.specs.Notes.{c1, c2, db, holding, changing, trying, from_to, from_upto, file_table, table_of_key, loaded_table, half_of, put, del, delspan, batch, read, get, get_at, scan, put_flush, flushed, excise, install, load, levels_0, levels_0_6, compact_l0, let_go, ask_held, ask_answered, ask_refused}
 
--- the table of one key
-abbrev pub table_of_key : ℕ → List ℕ → ℕ → Table
-table_of_key num key seq = file_table num (from_upto key key) seq seq 85
-
--- A change between the take of a flush and its put.
+-- a change between the take of a flush and its put
 abbrev pub change_between_take_and_put : List Note
 change_between_take_and_put =
     c1 (put (codes "a") (codes "1")) reply.Done
@@ -27,8 +32,60 @@ change_between_take_and_put =
     ∷ c1 (put (codes "a") (codes "2")) reply.Done
     ∷ db (Put 1) reply.NotYet
     ∷ put_flush 1 (table_of_key 1 (codes "a") 1)
-    ∷ read 1 1 1 (get (codes "a")) (Value (codes "2"))
-    ++ db (Show show.Levels) (reply.Levels (l0 (table_of_key 1 (codes "a") 1 ∷ [])))
+    ∷ read 1 (get (codes "a")) 1 1 (Value (codes "2"))
+    ++ db (Show show.Levels) (reply.Levels (levels_0 (table_of_key 1 (codes "a") 1 ∷ [])))
     ∷ db (Show show.Counts) (reply.Counts ((1, 1) ∷ []))
     ∷ db (Put 1) reply.NoSuch
+    ∷ []
+
+-- one fault of the device licenses one line
+abbrev pub one_fault_one_line : List Note
+one_fault_one_line =
+    c1 (put (codes "a") (codes "1")) reply.Done
+    ∷ db Seal (reply.Group 1)
+    ∷ db FlushTake (reply.Job 1)
+    ∷ trying (db (Build 1) reply.Fault) (1 ∷ [])
+    ∷ read 1 (get (codes "a")) 1 0 (Value (codes "1"))
+    ++ db FlushTake (reply.Job 2)
+    ∷ put_flush 2 (table_of_key 2 (codes "a") 1)
+    ∷ read 2 (get (codes "a")) 2 1 (Value (codes "1"))
+    ++ db Reap (reply.Took 1)
+    ∷ []
+
+-- a read that fails
+abbrev pub read_fails : List Note
+read_fails =
+    c1 (put (codes "a") (codes "1")) reply.Done
+    ∷ flushed 1 1 (table_of_key 1 (codes "a") 1)
+    ++ ask_held 1 (get (codes "a")) false (Hold 1 1)
+    ∷ ask_answered 1 (get (codes "a")) 1 reply.Fault
+    ∷ read 2 (get (codes "a")) 2 1 (Value (codes "1"))
+
+-- a flush whose file is begun in vain, and cannot be removed
+abbrev pub flush_and_removal_fail : List Note
+flush_and_removal_fail =
+    c1 (put (codes "a") (codes "1")) reply.Done
+    ∷ db Seal (reply.Group 1)
+    ∷ db FlushTake (reply.Job 1)
+    ∷ trying (db (Build 1) reply.Fault) (1 ∷ [])
+    ∷ db Reap (reply.Took 1)
+    ∷ db (Remove 1) reply.Stuck
+    ∷ db Reap reply.Nothing
+    ∷ read 1 (get (codes "a")) 1 0 (Value (codes "1"))
+
+-- a delete and what it deletes leave nothing
+abbrev pub compaction_to_nothing : List Note
+compaction_to_nothing =
+    c1 (put (codes "a") (codes "1")) reply.Done
+    ∷ flushed 1 1 (table_of_key 1 (codes "a") 1)
+    ++ c1 (del (codes "a")) reply.Done
+    ∷ flushed 2 2 (table_of_key 2 (codes "a") 2)
+    ++ db (Show show.Levels) (reply.Levels (levels_0 (table_of_key 1 (codes "a") 1 ∷ table_of_key 2 (codes "a") 2 ∷ [])))
+    ∷ holding (db (compact_l0 (from_to (codes "a") (codes "b"))) (reply.Job 3)) (Hold 1 2 ∷ [])
+    ∷ db (compact_l0 (from_to (codes "a") (codes "b"))) reply.Nothing
+    ∷ holding (changing (db (Put 3) reply.Installed) (changes ((0, 1) ∷ (0, 2) ∷ []) [] [])) (Release 1 ∷ [])
+    ∷ db (Show show.Levels) (reply.Levels no_tables)
+    ∷ read 1 (get (codes "a")) 2 3 Absent
+    ++ db Reap (reply.Took 1)
+    ∷ db Reap (reply.Took 2)
     ∷ []

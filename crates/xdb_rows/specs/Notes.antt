@@ -19,7 +19,7 @@ use Rattle.xdb_plain.specs.declared.note.HoldNote.{HoldNote}
 use Rattle.xdb_plain.specs.declared.note.HoldNote.TheVariants.{Hold, Release}
 use Rattle.xdb_plain.specs.declared.note.Note.{Note}
 use Rattle.xdb_plain.specs.declared.question.Question.{Question}
-use Rattle.xdb_plain.specs.declared.question.Question.TheVariants.{Get}
+use Rattle.xdb_plain.specs.declared.question.Question.TheVariants.{Get, Scan}
 use Rattle.xdb_plain.specs.declared.reply.Reply.{Reply}
 use Rattle.xdb_plain.specs.declared.reply.Reply.TheVariants as reply
 
@@ -81,14 +81,36 @@ delspan range = act.Commit form.DelSpan (DelSpan range ∷ [])
 abbrev pub batch : List Op → Act
 batch ops = act.Commit form.Batch ops
 
--- a read that holds a version, and its answer
-abbrev pub read : ℕ → ℕ → ℕ → Question → Answer → List Note
-read ask hold version question answer =
-    holding (c1 (act.Ask ask question false) (reply.Asked ask)) (Hold hold version ∷ [])
-    ∷ holding (c1 (act.Ask ask question false) (reply.Answered answer)) (Release hold ∷ []) ∷ []
+-- a question that holds a version, and its answer, which lets go
+abbrev pub ask_held : ℕ → Question → Bool → HoldNote → Note
+ask_held ask question parted hold = holding (c1 (act.Ask ask question parted) (reply.Asked ask)) (hold ∷ [])
+
+abbrev pub ask_answered : ℕ → Question → ℕ → Reply → Note
+ask_answered ask question hold r = holding (c1 (act.Ask ask question false) r) (Release hold ∷ [])
+
+abbrev pub read : ℕ → Question → ℕ → ℕ → Answer → List Note
+read ask question hold version answer =
+    ask_held ask question false (Hold hold version) ∷ ask_answered ask question hold (reply.Answered answer) ∷ []
+
+abbrev pub ask_refused : Question → Reply → Note
+ask_refused question r = c1 (act.Ask 0 question false) r
 
 abbrev pub get : List ℕ → Question
 get key = Get key None
+
+abbrev pub get_at : List ℕ → List ℕ → Question
+get_at key snap = Get key (Some snap)
+
+abbrev pub scan : Bounds → Question
+scan range = Scan range 10 None
+
+-- a note that lets a hold go
+abbrev pub let_go : Act → Reply → ℕ → Note
+let_go a r hold = holding (c1 a r) (Release hold ∷ [])
+
+-- the table of one key at one number
+abbrev pub table_of_key : ℕ → List ℕ → ℕ → Table
+table_of_key num key seq = file_table num (from_upto key key) seq seq 85
 
 -- a flush that installs a table of L0
 abbrev pub put_flush : ℕ → Table → Note
@@ -102,13 +124,21 @@ flushed group job t = db act.Seal (reply.Group group) ∷ db act.FlushTake (repl
 abbrev pub excise : List ℕ → Bounds → Note
 excise load span = c1 (act.LoadOpen load [] (Some span)) reply.Opened
 
+-- a load with tables is opened
+abbrev pub load : List ℕ → List TableOps → Option Bounds → List Note
+load name tables span =
+    c1 (act.LoadOpen name tables span) reply.Opening ∷ c1 (act.LoadOpen name tables span) reply.Opened ∷ []
+
 -- a load is installed with an edit
 abbrev pub install : List ℕ → Changes → Note
 install load edit = changing (c1 (act.Install load) reply.Installed) edit
 
--- the levels with tables in L0 alone, and the levels without tables
-abbrev pub l0 : List Table → LevelLists
-l0 ts = ts ∷ [] ∷ [] ∷ [] ∷ [] ∷ [] ∷ [] ∷ []
+-- levels with tables in L0 alone, and with tables in L0 and L6
+abbrev pub levels_0 : List Table → LevelLists
+levels_0 ts = ts ∷ [] ∷ [] ∷ [] ∷ [] ∷ [] ∷ [] ∷ []
+
+abbrev pub levels_0_6 : List Table → List Table → LevelLists
+levels_0_6 ts us = ts ∷ [] ∷ [] ∷ [] ∷ [] ∷ [] ∷ us ∷ []
 
 -- a compaction of the tables of L0 that meet a range
 abbrev pub compact_l0 : Bounds → Act

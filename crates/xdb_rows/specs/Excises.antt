@@ -1,0 +1,221 @@
+-- Histories with loads that cut out a span.
+use Rattle.std.specs.Prelude.{ℕ, ◌-◌, ◌^◌, true, false, List, [], ◌∷◌, ◌++◌, map, replicate, Option, Some, None, codes}
+use Rattle.std.specs.Fmt.{decimal}
+use Rattle.std.specs.List.{range_with_len}
+use Rattle.xdb_key.specs.Bounds.{successor}
+use Rattle.xdb_key.specs.declared.op.Op.{Op}
+use Rattle.xdb_key.specs.declared.op.Op.TheVariants.{Set, Del, DelSpan}
+use Rattle.xdb_key.specs.declared.state.SnapState.TheVariants as state
+use Rattle.xdb_meta.specs.Table.{Table}
+use Rattle.xdb_edit.specs.Changes.{changes}
+use Rattle.xdb_edit.specs.Versions.{no_tables}
+use Rattle.xdb_plain.specs.Tables.{TableOps, table_ops}
+use Rattle.xdb_plain.specs.declared.act.Act.TheVariants.{Commit, Seal, FlushTake, CompactTake, Put, Build, Work, LoadOpen, LoadKept, Install, Snap, Drop, Status, Cursor, Shut, Ask, Settle, Reap, Remove, Show}
+use Rattle.xdb_plain.specs.declared.act.ShowWhat.TheVariants as show
+use Rattle.xdb_plain.specs.declared.act.StatusForm.TheVariants as status_form
+use Rattle.xdb_plain.specs.declared.act.Which.TheVariants.{Auto}
+use Rattle.xdb_plain.specs.declared.answer.Answer.TheVariants.{Value, Absent, Found, Pair, End}
+use Rattle.xdb_plain.specs.declared.note.HoldNote.TheVariants.{Hold, Release}
+use Rattle.xdb_plain.specs.declared.note.Note.{Note}
+use Rattle.xdb_plain.specs.declared.question.Question.TheVariants.{Get, Scan, RScan, Move}
+use Rattle.xdb_plain.specs.declared.question.Step.TheVariants.{First, Last, Next, Prev, Seek, SeekLt}
+use Rattle.xdb_plain.specs.declared.reply.Reply.TheVariants as reply
+use Rattle.xdb_rows.specs.Notes.{c1, c2, db, holding, changing, trying, from_to, from_upto, file_table, table_of_key, loaded_table, half_of, put, del, delspan, batch, read, get, get_at, scan, put_flush, flushed, excise, install, load, levels_0, levels_0_6, compact_l0, let_go, ask_held, ask_answered, ask_refused}
+
+abbrev pub five_keys : List Op
+five_keys =
+    Set (codes "a") (codes "1") ∷ Set (codes "b") (codes "2") ∷ Set (codes "c") (codes "3") ∷ Set (codes "d") (codes "4") ∷ Set (codes "e") (codes "5") ∷ []
+
+abbrev pub a_to_e : Table
+a_to_e = file_table 1 (from_upto (codes "a") (codes "e")) 1 5 120
+
+abbrev pub left_of_five : Table
+left_of_five = half_of a_to_e 2 (from_upto (codes "a") (codes "a"))
+
+abbrev pub right_of_five : Table
+right_of_five = half_of a_to_e 3 (from_to (codes "d") (successor (codes "e")))
+
+-- two halves over one backing
+abbrev pub two_halves : List Note
+two_halves =
+    c1 (batch five_keys) reply.Done
+    ∷ flushed 1 1 a_to_e
+    ++ excise (codes "l1") (from_to (codes "b") (codes "d"))
+    ∷ install (codes "l1") (changes ((0, 1) ∷ []) [] ((0, left_of_five) ∷ (0, right_of_five) ∷ []))
+    ∷ db (Show show.Levels) (reply.Levels (levels_0 (left_of_five ∷ right_of_five ∷ [])))
+    ∷ db (Show show.Counts) (reply.Counts ((1, 2) ∷ []))
+    ∷ read 1 (scan (from_to (codes "a") (codes "z"))) 1 2 (Found ((codes "a", codes "1") ∷ (codes "d", codes "4") ∷ (codes "e", codes "5") ∷ []))
+
+-- a table wholly inside the span, and reaping twice
+abbrev pub whole_table_reaped : List Note
+whole_table_reaped =
+    c1 (put (codes "b") (codes "1")) reply.Done
+    ∷ flushed 1 1 (table_of_key 1 (codes "b") 1)
+    ++ excise (codes "l1") (from_to (codes "a") (codes "z"))
+    ∷ install (codes "l1") (changes ((0, 1) ∷ []) [] [])
+    ∷ db (Show show.Levels) (reply.Levels no_tables)
+    ∷ db Reap (reply.Took 1)
+    ∷ db Reap reply.Nothing
+    ∷ []
+
+-- a removal that fails
+abbrev pub removal_fails : List Note
+removal_fails =
+    c1 (put (codes "b") (codes "1")) reply.Done
+    ∷ flushed 1 1 (table_of_key 1 (codes "b") 1)
+    ++ excise (codes "l1") (from_to (codes "a") (codes "z"))
+    ∷ install (codes "l1") (changes ((0, 1) ∷ []) [] [])
+    ∷ db Reap (reply.Took 1)
+    ∷ db (Remove 1) reply.Stuck
+    ∷ db Reap reply.Nothing
+    ∷ []
+
+abbrev pub a_to_z : Table
+a_to_z = file_table 1 (from_upto (codes "a") (codes "z")) 1 2 90
+
+-- an excise that deletes no key: it begins behind the first and ends at the last
+abbrev pub excise_of_nothing : List Note
+excise_of_nothing =
+    c1 (batch (Set (codes "a") (codes "1") ∷ Set (codes "z") (codes "2") ∷ [])) reply.Done
+    ∷ flushed 1 1 a_to_z
+    ++ excise (codes "l1") (from_to (successor (codes "a")) (codes "z"))
+    ∷ install (codes "l1") (changes ((0, 1) ∷ []) [] ((0, half_of a_to_z 2 (from_upto (codes "a") (codes "a"))) ∷ (0, half_of a_to_z 3 (from_upto (codes "z") (codes "z"))) ∷ []))
+    ∷ db (Show show.Levels) (reply.Levels (levels_0 (half_of a_to_z 2 (from_upto (codes "a") (codes "a")) ∷ half_of a_to_z 3 (from_upto (codes "z") (codes "z")) ∷ [])))
+    ∷ []
+
+abbrev pub a_to_d : Table
+a_to_d = file_table 1 (from_upto (codes "a") (codes "d")) 1 2 90
+
+-- a compaction has the file numbers 2 to 65, so the halves have 66 and 67
+abbrev pub cancelled_compaction : List Note
+cancelled_compaction =
+    c1 (batch (Set (codes "a") (codes "1") ∷ Set (codes "d") (codes "2") ∷ [])) reply.Done
+    ∷ flushed 1 1 a_to_d
+    ++ holding (db (compact_l0 (from_to (codes "a") (codes "z"))) (reply.Job 2)) (Hold 1 1 ∷ [])
+    ∷ excise (codes "l1") (from_to (codes "b") (codes "c"))
+    ∷ install (codes "l1") (changes ((0, 1) ∷ []) [] ((0, half_of a_to_d 66 (from_upto (codes "a") (codes "a"))) ∷ (0, half_of a_to_d 67 (from_upto (codes "d") (codes "d"))) ∷ []))
+    ∷ holding (trying (db (Put 2) (reply.Cancelled (codes "l1"))) (2 ∷ [])) (Release 1 ∷ [])
+    ∷ db (Show show.Levels) (reply.Levels (levels_0 (half_of a_to_d 66 (from_upto (codes "a") (codes "a")) ∷ half_of a_to_d 67 (from_upto (codes "d") (codes "d")) ∷ [])))
+    ∷ db Reap (reply.Took 2)
+    ∷ []
+
+abbrev pub b_x_z : TableOps
+b_x_z = table_ops (codes "t") (Set (codes "b") (codes "1") ∷ Set (codes "x") (codes "2") ∷ Set (codes "z") (codes "3") ∷ [])
+
+abbrev pub b_to_z : Table
+b_to_z = loaded_table 1 (from_upto (codes "b") (codes "z")) 1 100
+
+abbrev pub a_to_b : ℕ → Table
+a_to_b num = file_table num (from_upto (codes "a") (codes "b")) 2 3 90
+
+-- an excise beside the hull of a compaction, with a table that reaches over both
+abbrev pub excise_beside_hull : List Note
+excise_beside_hull =
+    load (codes "l1") (b_x_z ∷ []) None
+    ++ install (codes "l1") (changes [] (1 ∷ []) ((6, b_to_z) ∷ []))
+    ∷ c1 (batch (Set (codes "a") (codes "4") ∷ Del (codes "b") ∷ [])) reply.Done
+    ∷ flushed 1 1 (a_to_b 2)
+    ++ holding (db (compact_l0 (from_to (codes "a") (codes "z"))) (reply.Job 2)) (Hold 1 2 ∷ [])
+    ∷ excise (codes "l2") (from_to (codes "x") (codes "y"))
+    ∷ install (codes "l2") (changes ((6, 1) ∷ []) [] ((6, half_of b_to_z 67 (from_upto (codes "b") (codes "b"))) ∷ (6, half_of b_to_z 68 (from_upto (codes "z") (codes "z"))) ∷ []))
+    ∷ holding (changing (db (Put 2) reply.Installed) (changes ((0, 2) ∷ []) (3 ∷ []) ((1, a_to_b 3) ∷ []))) (Release 1 ∷ [])
+    ∷ db (Show show.Levels) (reply.Levels ([] ∷ (a_to_b 3 ∷ []) ∷ [] ∷ [] ∷ [] ∷ [] ∷ (half_of b_to_z 67 (from_upto (codes "b") (codes "b")) ∷ half_of b_to_z 68 (from_upto (codes "z") (codes "z")) ∷ []) ∷ []))
+    ∷ db Reap (reply.Took 2)
+    ∷ read 1 (scan (from_to (codes "a") (codes "zz"))) 2 4 (Found ((codes "a", codes "4") ∷ (codes "z", codes "3") ∷ []))
+
+-- the answer of the question's moment
+abbrev pub answer_of_the_asking : List Note
+answer_of_the_asking =
+    c1 (put (codes "c") (codes "1")) reply.Done
+    ∷ flushed 1 1 (table_of_key 1 (codes "c") 1)
+    ++ ask_held 1 (get (codes "c")) true (Hold 1 1)
+    ∷ excise (codes "l1") (from_to (codes "a") (codes "m"))
+    ∷ install (codes "l1") (changes ((0, 1) ∷ []) [] [])
+    ∷ c1 (Settle 1) reply.NotYet
+    ∷ let_go (Settle 1) (reply.Answered (Value (codes "1"))) 1
+    ∷ read 2 (get (codes "c")) 2 2 Absent
+    ++ db Reap (reply.Took 1)
+    ∷ []
+
+abbrev pub b_to_m : Table
+b_to_m = file_table 1 (from_upto (codes "b") (codes "m")) 1 2 90
+
+abbrev pub deleted_a_to_z : Table
+deleted_a_to_z = file_table 2 (from_to (codes "a") (codes "z")) 3 3 80
+
+abbrev pub only_m : TableOps
+only_m = table_ops (codes "t1") (Set (codes "m") (codes "9") ∷ [])
+
+abbrev pub loaded_m : Table
+loaded_m = loaded_table 3 (from_upto (codes "m") (codes "m")) 4 85
+
+abbrev pub half_b : Table
+half_b = half_of b_to_m 4 (from_upto (codes "b") (codes "b"))
+
+abbrev pub half_a_m : Table
+half_a_m = half_of deleted_a_to_z 5 (from_to (codes "a") (codes "m"))
+
+abbrev pub half_n_z : Table
+half_n_z = half_of deleted_a_to_z 6 (from_to (codes "n") (codes "z"))
+
+-- a range delete across the span is clipped in both halves
+abbrev pub tombstone_clipped : List Note
+tombstone_clipped =
+    c1 (batch (Set (codes "b") (codes "1") ∷ Set (codes "m") (codes "2") ∷ [])) reply.Done
+    ∷ flushed 1 1 b_to_m
+    ++ c1 (delspan (from_to (codes "a") (codes "z"))) reply.Done
+    ∷ flushed 2 2 deleted_a_to_z
+    ++ load (codes "l1") (only_m ∷ []) (Some (from_to (codes "m") (codes "n")))
+    ++ install (codes "l1") (changes ((0, 1) ∷ (0, 2) ∷ []) (3 ∷ []) ((0, half_b) ∷ (0, half_a_m) ∷ (0, half_n_z) ∷ (6, loaded_m) ∷ []))
+    ∷ read 1 (get (codes "m")) 1 3 (Value (codes "9"))
+    ++ read 2 (get (codes "b")) 2 3 Absent
+    ++ db (Show show.Levels) (reply.Levels (levels_0_6 (half_b ∷ half_a_m ∷ half_n_z ∷ []) (loaded_m ∷ [])))
+    ∷ []
+
+-- the longest key
+abbrev pub long_key : List ℕ
+long_key = replicate 1024 107
+
+abbrev pub longest_key : List Note
+longest_key =
+    c1 (put long_key (codes "1")) reply.Done
+    ∷ flushed 1 1 (file_table 1 (from_upto long_key long_key) 1 1 2200)
+    ++ excise (codes "l1") (from_upto long_key long_key)
+    ∷ install (codes "l1") (changes ((0, 1) ∷ []) [] [])
+    ∷ read 1 (get long_key) 1 2 Absent
+    ++ db Reap (reply.Took 1)
+    ∷ []
+
+abbrev pub old_range : TableOps
+old_range = table_ops (codes "old") (Set (codes "r1") (codes "old1") ∷ Set (codes "r5") (codes "old5") ∷ Set (codes "w1") (codes "w") ∷ [])
+
+abbrev pub new_range : TableOps
+new_range = table_ops (codes "new") (Set (codes "r1") (codes "new1") ∷ Set (codes "r3") (codes "new3") ∷ [])
+
+abbrev pub r1_to_w1 : Table
+r1_to_w1 = loaded_table 1 (from_upto (codes "r1") (codes "w1")) 1 110
+
+abbrev pub w1_alone : Table
+w1_alone = half_of r1_to_w1 4 (from_upto (codes "w1") (codes "w1"))
+
+abbrev pub r1_to_r3 : Table
+r1_to_r3 = loaded_table 2 (from_upto (codes "r1") (codes "r3")) 3 100
+
+-- a node receives a range
+abbrev pub receive_range : List Note
+receive_range =
+    load (codes "l1") (old_range ∷ []) None
+    ++ install (codes "l1") (changes [] (1 ∷ []) ((6, r1_to_w1) ∷ []))
+    ∷ c2 (put (codes "r2") (codes "fresh")) reply.Done
+    ∷ c1 (Snap (codes "s1") (from_to (codes "r") (codes "s") ∷ [])) (reply.Pinned 1)
+    ∷ load (codes "l2") (new_range ∷ []) (Some (from_to (codes "r") (codes "s")))
+    ++ c1 (Install (codes "l2")) (reply.Waits 1)
+    ∷ db FlushTake (reply.Job 1)
+    ∷ holding (put_flush 1 (table_of_key 3 (codes "r2") 2)) (Hold 1 2 ∷ [])
+    ∷ install (codes "l2") (changes ((0, 3) ∷ (6, 1) ∷ []) (2 ∷ []) ((6, r1_to_r3) ∷ (6, w1_alone) ∷ []))
+    ∷ read 1 (scan (from_to (codes "a") (codes "z"))) 2 3 (Found ((codes "r1", codes "new1") ∷ (codes "r3", codes "new3") ∷ (codes "w1", codes "w") ∷ []))
+    ++ read 2 (Scan (from_to (codes "r") (codes "s")) 10 (Some (codes "s1"))) 3 2 (Found ((codes "r1", codes "old1") ∷ (codes "r2", codes "fresh") ∷ (codes "r5", codes "old5") ∷ []))
+    ++ db (Show show.Levels) (reply.Levels (levels_0_6 [] (r1_to_r3 ∷ w1_alone ∷ [])))
+    ∷ db (Show show.Counts) (reply.Counts ((1, 2) ∷ (2, 1) ∷ (3, 1) ∷ []))
+    ∷ db (CompactTake Auto) reply.Nothing
+    ∷ []

@@ -1,0 +1,70 @@
+-- Histories of commits and reads.
+use Rattle.std.specs.Prelude.{ℕ, ◌-◌, ◌^◌, true, false, List, [], ◌∷◌, ◌++◌, map, replicate, Option, Some, None, codes}
+use Rattle.std.specs.Fmt.{decimal}
+use Rattle.std.specs.List.{range_with_len}
+use Rattle.xdb_key.specs.Bounds.{successor}
+use Rattle.xdb_key.specs.declared.op.Op.{Op}
+use Rattle.xdb_key.specs.declared.op.Op.TheVariants.{Set, Del, DelSpan}
+use Rattle.xdb_key.specs.declared.state.SnapState.TheVariants as state
+use Rattle.xdb_meta.specs.Table.{Table}
+use Rattle.xdb_edit.specs.Changes.{changes}
+use Rattle.xdb_edit.specs.Versions.{no_tables}
+use Rattle.xdb_plain.specs.Tables.{TableOps, table_ops}
+use Rattle.xdb_plain.specs.declared.act.Act.TheVariants.{Commit, Seal, FlushTake, CompactTake, Put, Build, Work, LoadOpen, LoadKept, Install, Snap, Drop, Status, Cursor, Shut, Ask, Settle, Reap, Remove, Show}
+use Rattle.xdb_plain.specs.declared.act.ShowWhat.TheVariants as show
+use Rattle.xdb_plain.specs.declared.act.StatusForm.TheVariants as status_form
+use Rattle.xdb_plain.specs.declared.act.Which.TheVariants.{Auto}
+use Rattle.xdb_plain.specs.declared.answer.Answer.TheVariants.{Value, Absent, Found, Pair, End}
+use Rattle.xdb_plain.specs.declared.note.HoldNote.TheVariants.{Hold, Release}
+use Rattle.xdb_plain.specs.declared.note.Note.{Note}
+use Rattle.xdb_plain.specs.declared.question.Question.TheVariants.{Get, Scan, RScan, Move}
+use Rattle.xdb_plain.specs.declared.question.Step.TheVariants.{First, Last, Next, Prev, Seek, SeekLt}
+use Rattle.xdb_plain.specs.declared.reply.Reply.TheVariants as reply
+use Rattle.xdb_rows.specs.Notes.{c1, c2, db, holding, changing, trying, from_to, from_upto, file_table, table_of_key, loaded_table, half_of, put, del, delspan, batch, read, get, get_at, scan, put_flush, flushed, excise, install, load, levels_0, levels_0_6, compact_l0, let_go, ask_held, ask_answered, ask_refused}
+
+abbrev pub empty_script : List Note
+empty_script = []
+
+abbrev pub stored_run : List Note
+stored_run =
+    c1 (put (codes "a") (codes "1")) reply.Done
+    ∷ read 1 (get (codes "a")) 1 0 (Value (codes "1"))
+    ++ c1 (del (codes "a")) reply.Done
+    ∷ read 2 (get (codes "a")) 2 0 Absent
+
+abbrev pub two_clients : List Note
+two_clients =
+    read 1 (get (codes "a")) 1 0 Absent
+    ++ c2 (put (codes "a") (codes "x/1")) reply.Done
+    ∷ read 2 (get (codes "a")) 2 0 (Value (codes "x/1"))
+
+-- the order inside a batch
+abbrev pub batch_order : List Note
+batch_order =
+    c1 (batch (Set (codes "b") (codes "1") ∷ DelSpan (from_to (codes "a") (codes "c")) ∷ Set (codes "a") (codes "2") ∷ [])) reply.Done
+    ∷ read 1 (scan (from_to (codes "a") (codes "z"))) 1 0 (Found ((codes "a", codes "2") ∷ []))
+    ++ read 2 (RScan (from_to (codes "b") (codes "z")) 10 None) 2 0 (Found [])
+
+-- a question in parts has the answer of its asking
+abbrev pub question_in_parts : List Note
+question_in_parts =
+    c1 (put (codes "c") (codes "1")) reply.Done
+    ∷ ask_held 1 (get (codes "c")) true (Hold 1 0)
+    ∷ c1 (put (codes "c") (codes "2")) reply.Done
+    ∷ c1 (Settle 1) reply.NotYet
+    ∷ let_go (Settle 1) (reply.Answered (Value (codes "1"))) 1
+    ∷ c1 (Settle 1) reply.NoSuch
+    ∷ db (Work 1) reply.NoSuch
+    ∷ []
+
+-- a read at a snapshot that there isn't
+abbrev pub read_at_nothing : List Note
+read_at_nothing = ask_refused (get_at (codes "a") (codes "s9")) reply.NoSuch ∷ []
+
+-- the last sequence numbers, from 2^56 - 1 on
+abbrev pub last_numbers : List Note
+last_numbers =
+    c1 (batch (Set (codes "a") (codes "1") ∷ Set (codes "b") (codes "1") ∷ [])) reply.Spent
+    ∷ c1 (put (codes "a") (codes "1")) reply.Done
+    ∷ c1 (put (codes "a") (codes "1")) reply.Spent
+    ∷ []
