@@ -135,15 +135,16 @@ IsRemoval (Some num) note = IsNote Db (act.Remove num) note
 abbrev pub IsTaking : Note → Type 0
 IsTaking note = IsNote Db act.Reap note × IsTrue (is_took note.reply)
 
--- Numbers are taken one after the other, each followed by its removal where that failed. `last` is the number whose
--- removal may come next.
-abbrev pub AreTakings : Option ℕ → List Note → Type 0
-AreTakings last [] = Unit {0}
-AreTakings last (note ∷ notes) = (IsRemoval last note × AreTakings None notes) ⊎ (IsTaking note × AreTakings (took note.reply) notes)
+-- Numbers are taken one after the other until nothing is dead, each followed by its removal where that failed.
+-- `last` is the number whose removal may come next.
+abbrev pub IsDrainBehind : Option ℕ → Plain → List Note → Type 0
+IsDrainBehind last p [] = dead p ≡ []
+IsDrainBehind last p (note ∷ notes) =
+    (IsRemoval last note × IsDrainBehind None (after p note) notes)
+    ⊎ (IsTaking note × (is_empty (dead p) ≡ false) × IsDrainBehind (took note.reply) (after p note) notes)
 
--- until nothing is dead
 abbrev pub IsDrain : Plain → List Note → Type 0
-IsDrain p notes = AreTakings None notes × (dead (after_all p notes) ≡ [])
+IsDrain p notes = IsDrainBehind None p notes
 
 abbrev pub IsReaped : Plain → List ℕ → List Note → Type 0
 IsReaped p [] notes = IsOne Db act.Reap notes
