@@ -19,3 +19,7 @@ right_push p (n ∷ notes) note right stands answers =
 pub legal_from_right : (p : Plain) (notes : List Note) → Right p notes → Legal p notes
 legal_from_right p [] right = tt
 legal_from_right p (n ∷ notes) right = (right.0, legal_from_right (after p n) notes right.2)
+
+pub legal_push : (p : Plain) (notes : List Note) (note : Note) → Legal p notes → MayStand (after_all p notes) note → Legal p (notes ++ note ∷ [])
+legal_push p [] note legal stands = (stands, tt)
+legal_push p (n ∷ notes) note legal stands = (legal.0, legal_push (after p n) notes note legal.1 stands)

@@ -1,21 +1,21 @@
 -- What each part of the state is after a step, by the act and how it ended.
-use Rattle.std.specs.Prelude.{ℕ, ◌+◌, Bool, true, false, not, ◌&&◌, ◌||◌, List, [], ◌∷◌, ◌++◌, length, map, filter, drop, Option, Some, None, ◌==◌, is_some, is_none, if◌then◌else◌}
-use Rattle.std.specs.List.{list_any, enumerate_from}
+use Rattle.std.specs.Prelude.{ℕ, ◌+◌, Bool, true, false, ◌&&◌, List, [], ◌∷◌, ◌++◌, length, map, drop, Option, Some, None, is_some, is_none, if◌then◌else◌}
+use Rattle.std.specs.List.{enumerate_from}
 use Rattle.xdb_key.specs.Bounds.{Bounds, meets}
 use Rattle.xdb_key.specs.Groups.{Group, group_touches}
 use Rattle.xdb_key.specs.declared.op.Op.{Op}
 use Rattle.xdb_edit.specs.Changes.{Changes}
 use Rattle.xdb_edit.specs.Plans.{Planned}
-use Rattle.xdb_plain.specs.Answers.{answer_now, copy_at, Landing}
+use Rattle.xdb_plain.specs.Answers.{answer_now, copy_at}
 use Rattle.xdb_plain.specs.Counts.{with_numbers}
 use Rattle.xdb_plain.specs.Edits.{virtual_in, is_empty}
-use Rattle.xdb_plain.specs.Fences.{fence, any_meet, span_list}
+use Rattle.xdb_plain.specs.Fences.{fence}
 use Rattle.xdb_plain.specs.Holds.{version_after, holds_after}
-use Rattle.xdb_plain.specs.Outcomes.{Outcome, succeeds, begins, fails, cancels, stays, outcome, groups_after, is_put_of_flush}
+use Rattle.xdb_plain.specs.Outcomes.{Outcome, succeeds, begins, fails, cancels, outcome, groups_after, is_put_of_flush}
 use Rattle.xdb_plain.specs.PlainMap.{PlainMap, acted_all, loaded}
 use Rattle.xdb_plain.specs.Replies.{plan_now}
 use Rattle.xdb_plain.specs.Snapshots.{first_state, turned, excised}
-use Rattle.xdb_plain.specs.State.{Plain, Snapshot, Cursor, Load, Phase, being_opened, waiting, is_in, OpenQuestion, Job, JobKind, flush_of, compaction_of, Compaction, group_of, groups, same_name, found_load, without_snap, without_cursor, without_load, found_question, without_question, without_job}
+use Rattle.xdb_plain.specs.State.{Plain, Snapshot, Cursor, Load, Phase, being_opened, waiting, is_in, OpenQuestion, Job, JobKind, flush_of, compaction_of, group_of, groups, same_name, found_load, without_snap, without_cursor, without_load, found_question, without_question, without_job}
 use Rattle.xdb_plain.specs.Tables.{TableOps}
 use Rattle.xdb_plain.specs.declared.act.Act.{Act}
 use Rattle.xdb_plain.specs.declared.act.Act.TheVariants as act

@@ -1,8 +1,6 @@
 -- Holds of versions, how many tables stand on each file, and which files nothing needs any more.
-use Rattle.std.specs.Prelude.{ℕ, ◌+◌, Bool, true, false, not, ◌&&◌, ◌||◌, List, [], ◌∷◌, ◌++◌, length, map, filter, Option, Some, None, ◌==◌, nat_lt, nat_le, if◌then◌else◌}
+use Rattle.std.specs.Prelude.{ℕ, ◌+◌, Bool, false, not, ◌&&◌, ◌||◌, List, [], ◌∷◌, length, map, filter, Option, ◌==◌, nat_lt, nat_le, if◌then◌else◌}
 use Rattle.std.specs.List.{find, list_any, flat_map}
-use Rattle.xdb_meta.specs.Table.{Table}
-use Rattle.xdb_edit.specs.Versions.{LevelLists}
 use Rattle.xdb_plain.specs.State.{Plain, Version, Hold, Holder, for_snap, for_cursor, for_ask, for_job, Load, Job, JobKind, flush_of, compaction_of, open_loads, same_name}
 
 -- the numbers with one more, which rise; a number that is there stands once

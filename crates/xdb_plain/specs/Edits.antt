@@ -1,8 +1,8 @@
 -- What a flush, a compaction and a load may change in the tables.
-use Rattle.std.specs.Prelude.{◌≡◌, ℕ, zero, suc, ◌+◌, ◌/◌, ◌≤◌, Bool, true, false, not, ◌&&◌, List, [], ◌∷◌, ◌++◌, length, map, filter, Option, Some, None, IsTrue, ◌==◌, if◌then◌else◌}
+use Rattle.std.specs.Prelude.{◌≡◌, ℕ, ◌+◌, ◌/◌, ◌≤◌, Bool, true, false, not, ◌&&◌, List, [], ◌∷◌, length, map, filter, Option, Some, None, IsTrue, ◌==◌, if◌then◌else◌}
 use Rattle.std.specs.List.{list_all, list_any, flat_map, range_with_len, enumerate_from, filter_map}
-use Rattle.xdb_key.specs.Bounds.{Bounds, covers, meets}
-use Rattle.xdb_key.specs.Order.{is_below, is_upto}
+use Rattle.xdb_key.specs.Bounds.{Bounds, covers}
+use Rattle.xdb_key.specs.Order.{is_upto}
 use Rattle.xdb_meta.specs.Table.{Table, bounds_of}
 use Rattle.xdb_edit.specs.Changes.{Changes, changes}
 use Rattle.xdb_edit.specs.Plans.{meeting, inputs_at, place}

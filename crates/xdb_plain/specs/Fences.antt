@@ -1,9 +1,8 @@
 -- Fences: the keys that an open load keeps others from.
-use Rattle.std.specs.Prelude.{ℕ, Bool, ◌||◌, List, [], ◌∷◌, ◌++◌, map, Option, Some, None}
+use Rattle.std.specs.Prelude.{ℕ, Bool, List, [], ◌∷◌, ◌++◌, map, Option, Some, None}
 use Rattle.std.specs.Option.{option_map}
 use Rattle.std.specs.List.{find, list_any}
 use Rattle.xdb_key.specs.Bounds.{Bounds, meets}
-use Rattle.xdb_key.specs.Groups.{Group, group_touches}
 use Rattle.xdb_key.specs.Ops.{touches}
 use Rattle.xdb_key.specs.declared.op.Op.{Op}
 use Rattle.xdb_edit.specs.Versions.{or_else}

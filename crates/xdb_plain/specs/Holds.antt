@@ -1,13 +1,12 @@
 -- The holds of versions that a step takes and lets go.
-use Rattle.std.specs.Prelude.{◌≡◌, ℕ, ◌+◌, Bool, true, false, not, ◌&&◌, List, [], ◌∷◌, ◌++◌, length, map, filter, Option, Some, None, IsTrue, ◌==◌, if◌then◌else◌}
+use Rattle.std.specs.Prelude.{◌≡◌, ℕ, ◌+◌, Bool, true, not, ◌&&◌, List, [], ◌∷◌, ◌++◌, length, map, filter, Option, Some, None, IsTrue, ◌==◌, if◌then◌else◌}
 use Rattle.std.specs.Option.{option_map}
-use Rattle.std.specs.List.{list_all, list_any, filter_map}
+use Rattle.std.specs.List.{list_any, filter_map}
 use Rattle.xdb_key.specs.declared.state.SnapState.{SnapState}
-use Rattle.xdb_key.specs.Groups.{Group}
 use Rattle.xdb_edit.specs.Changes.{Changes}
 use Rattle.xdb_edit.specs.Versions.{edited}
 use Rattle.xdb_plain.specs.Counts.{is_among, found_hold}
-use Rattle.xdb_plain.specs.Outcomes.{Outcome, succeeds, begins, fails, cancels, stays, outcome, groups_after, is_put_of_flush}
+use Rattle.xdb_plain.specs.Outcomes.{Outcome, succeeds, begins, fails, cancels, outcome, groups_after, is_put_of_flush}
 use Rattle.xdb_plain.specs.Snapshots.{is_file_only, turns, first_state}
 use Rattle.xdb_plain.specs.State.{Plain, Snapshot, Version, Hold, Holder, for_snap, for_cursor, for_ask, for_job, found_snap, groups}
 use Rattle.xdb_plain.specs.declared.act.Act.{Act}

@@ -1,9 +1,9 @@
 -- Histories whose notes are steps, and those whose answers are right besides.
-use Rattle.std.specs.Prelude.{◌≡◌, ℕ, List, [], ◌∷◌, Option, Some, None}
+use Rattle.std.specs.Prelude.{◌≡◌, ℕ, List, [], ◌∷◌, Option, Some}
 use Rattle.std.specs.Option.{option_map}
 use Rattle.xdb_plain.specs.Changes.{after}
 use Rattle.xdb_plain.specs.Holds.{HoldsFit}
-use Rattle.xdb_plain.specs.State.{Plain, OpenQuestion, opening, found_question}
+use Rattle.xdb_plain.specs.State.{Plain, opening, found_question}
 use Rattle.xdb_plain.specs.Steps.{MayStand}
 use Rattle.xdb_plain.specs.declared.act.Act.{Act}
 use Rattle.xdb_plain.specs.declared.act.Act.TheVariants as act

@@ -1,5 +1,5 @@
 -- How a step ended, as far as it changes the state, and what becomes of the groups.
-use Rattle.std.specs.Prelude.{ℕ, Bool, true, false, List, [], ◌∷◌, ◌++◌, drop, Option, Some, None}
+use Rattle.std.specs.Prelude.{ℕ, Bool, false, List, [], ◌∷◌, ◌++◌, drop, Option, Some, None}
 use Rattle.xdb_key.specs.Groups.{Group}
 use Rattle.xdb_plain.specs.Replies.{is_flush}
 use Rattle.xdb_plain.specs.State.{Plain, Job, found_job}

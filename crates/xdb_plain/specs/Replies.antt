@@ -1,7 +1,7 @@
 -- The replies that may stand, by the act, in the order in which they are tested. What the plain state doesn't
 -- show, what work finds and want of memory, keeps no later reply out.
 use Rattle.std.specs.Prelude.{ℕ, ◌+◌, ◌^◌, Bool, true, false, not, ◌&&◌, ◌||◌, List, [], ◌∷◌, ◌++◌, length, filter, Option, Some, None, ◌==◌, nat_lt, nat_le, is_some, is_none, if◌then◌else◌}
-use Rattle.std.specs.List.{find, list_any, sum_by}
+use Rattle.std.specs.List.{find, list_any}
 use Rattle.xdb_key.specs.Bounds.{Bounds, holds, covers}
 use Rattle.xdb_key.specs.Groups.{first_touching}
 use Rattle.xdb_key.specs.Order.{is_below}
@@ -13,7 +13,7 @@ use Rattle.xdb_plain.specs.Counts.{dead, counts, is_among}
 use Rattle.xdb_plain.specs.Edits.{running_hulls, crossed, is_empty}
 use Rattle.xdb_plain.specs.Fences.{fence, fence_of, fence_touched, fence_met, first_overlap}
 use Rattle.xdb_plain.specs.Snapshots.{first_state, are_rising, snap_states}
-use Rattle.xdb_plain.specs.State.{Plain, Snapshot, Cursor, Load, Phase, being_opened, waiting, is_in, OpenQuestion, Job, JobKind, flush_of, compaction_of, Compaction, groups, same_name, found_snap, found_cursor, found_load, open_loads, found_question, found_job}
+use Rattle.xdb_plain.specs.State.{Plain, Snapshot, Cursor, Load, Phase, being_opened, waiting, is_in, OpenQuestion, Job, JobKind, flush_of, compaction_of, groups, same_name, found_snap, found_cursor, found_load, open_loads, found_question, found_job}
 use Rattle.xdb_plain.specs.Tables.{TableOps}
 use Rattle.xdb_plain.specs.declared.act.Act.{Act}
 use Rattle.xdb_plain.specs.declared.act.Act.TheVariants as act

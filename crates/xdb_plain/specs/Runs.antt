@@ -1,9 +1,7 @@
 -- Runs of a script on one thread: each line has its block of notes, one block after another, and at the end the
 -- files that nothing needs are taken.
-use Rattle.std.specs.Prelude.{◌≡◌, ◌⊎◌, ℕ, ◌+◌, Bool, true, false, not, ◌&&◌, ◌||◌, List, [], ◌∷◌, ◌++◌, length, map, take, drop, Option, Some, None, ◌==◌, is_some, is_none, IsTrue, if◌then◌else◌}
-use Rattle.std.specs.List.{list_any, filter_map}
-use Rattle.xdb_key.specs.Bounds.{Bounds}
-use Rattle.xdb_key.specs.declared.op.Op.{Op}
+use Rattle.std.specs.Prelude.{◌≡◌, ◌⊎◌, ℕ, ◌+◌, Bool, true, false, not, ◌&&◌, List, [], ◌∷◌, ◌++◌, take, drop, Option, Some, None, ◌==◌, is_some, IsTrue, if◌then◌else◌}
+use Rattle.std.specs.List.{filter_map}
 use Rattle.xdb_plain.specs.Changes.{after}
 use Rattle.xdb_plain.specs.Counts.{dead, is_among}
 use Rattle.xdb_plain.specs.Edits.{is_empty}
@@ -13,8 +11,7 @@ use Rattle.xdb_plain.specs.Scripts.{found_table, tables_below}
 use Rattle.xdb_plain.specs.State.{Plain, opening, found_question, found_job}
 use Rattle.xdb_plain.specs.Tables.{TableOps}
 use Rattle.xdb_plain.specs.declared.act.By.{By}
-use Rattle.xdb_plain.specs.declared.act.By.TheVariants.{Client, Db}
-use Rattle.xdb_plain.specs.declared.act.Which.{Which}
+use Rattle.xdb_plain.specs.declared.act.By.TheVariants.{Db}
 use Rattle.xdb_plain.specs.declared.act.Act.{Act}
 use Rattle.xdb_plain.specs.declared.act.Act.TheVariants as act
 use Rattle.xdb_plain.specs.declared.question.Question.{Question}

@@ -1,5 +1,5 @@
 -- Scripts: lines that are said by those who may say them, keep the limits, and name tables of lines above.
-use Rattle.std.specs.Prelude.{ℕ, ◌^◌, ◌≤◌, Bool, true, false, not, ◌&&◌, ◌||◌, List, [], ◌∷◌, ◌++◌, length, Option, Some, None, IsTrue, nat_le, nat_lt, ◌==◌, is_some, is_none}
+use Rattle.std.specs.Prelude.{ℕ, ◌^◌, Bool, true, false, not, ◌&&◌, ◌||◌, List, [], ◌∷◌, ◌++◌, length, Option, Some, None, nat_le, nat_lt, is_some, is_none}
 use Rattle.std.specs.List.{find, list_all}
 use Rattle.xdb_key.specs.Ops.{batch_len}
 use Rattle.xdb_key.specs.declared.TheConstants.{MAX_VALUE}

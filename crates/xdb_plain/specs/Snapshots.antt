@@ -1,7 +1,7 @@
 -- The states of snapshots: pinned while a group that isn't in tables yet has an operation of the snapshot's
 -- time in its ranges, file-only from then on, or excised where a span met its ranges first.
-use Rattle.std.specs.Prelude.{ℕ, Bool, true, false, not, ◌&&◌, List, [], ◌∷◌, map, filter, Option, Some, None, if◌then◌else◌, is_none}
-use Rattle.std.specs.Ordering.{is_lt, is_le}
+use Rattle.std.specs.Prelude.{ℕ, Bool, true, false, ◌&&◌, List, [], ◌∷◌, map, Option, Some, None, if◌then◌else◌, is_none}
+use Rattle.std.specs.Ordering.{is_lt}
 use Rattle.xdb_key.specs.Bounds.{Bounds}
 use Rattle.xdb_key.specs.Groups.{Group, last_touching}
 use Rattle.xdb_key.specs.Order.{key_cmp, is_upto}

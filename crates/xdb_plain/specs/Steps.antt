@@ -1,13 +1,12 @@
 -- Which note may stand as the next one of a history.
-use Rattle.std.specs.Prelude.{◌≡◌, ℕ, ◌+◌, Bool, true, false, ◌&&◌, not, List, [], ◌∷◌, length, Option, Some, None, IsTrue, nat_le, nat_lt, if◌then◌else◌}
+use Rattle.std.specs.Prelude.{◌≡◌, ℕ, Bool, true, false, ◌&&◌, List, [], ◌∷◌, length, Option, Some, None, IsTrue, nat_le, nat_lt}
 use Rattle.std.specs.List.{list_any, list_all}
 use Rattle.xdb_key.specs.Bounds.{Bounds}
-use Rattle.xdb_key.specs.declared.state.SnapState.{SnapState}
 use Rattle.xdb_edit.specs.Changes.{Changes}
 use Rattle.xdb_edit.specs.Records.{IsEdit}
 use Rattle.xdb_plain.specs.Counts.{counts, is_within, job_numbers}
 use Rattle.xdb_plain.specs.Edits.{IsFlushOf, IsCompactionOf, IsInstallOf}
-use Rattle.xdb_plain.specs.Outcomes.{Outcome, succeeds, begins, fails, cancels, stays, outcome}
+use Rattle.xdb_plain.specs.Outcomes.{Outcome, fails, cancels, outcome}
 use Rattle.xdb_plain.specs.Replies.{may_reply, same_reply}
 use Rattle.xdb_plain.specs.Snapshots.{snap_states}
 use Rattle.xdb_plain.specs.State.{Plain, Load, OpenQuestion, Job, JobKind, flush_of, compaction_of, found_load, found_question, found_job}

@@ -1,12 +1,11 @@
 -- Runs of a script by workers: each client's lines have their blocks in order among the notes by that client.
-use Rattle.std.specs.Prelude.{◌≡◌, ℕ, ◌+◌, ◌≤◌, Bool, true, false, not, ◌&&◌, ◌||◌, List, [], ◌∷◌, ◌++◌, length, filter, take, drop, reverse, Option, Some, None, ◌==◌, nat_lt, is_none, IsTrue, if◌then◌else◌}
-use Rattle.std.specs.List.{find, list_any, list_all}
+use Rattle.std.specs.Prelude.{◌≡◌, ℕ, ◌≤◌, Bool, true, false, not, ◌&&◌, ◌||◌, List, [], ◌∷◌, length, filter, take, drop, reverse, Option, Some, None, nat_lt, IsTrue, if◌then◌else◌}
+use Rattle.std.specs.List.{list_all}
 use Rattle.xdb_edit.specs.Plans.{pick}
 use Rattle.xdb_plain.specs.Counts.{dead}
-use Rattle.xdb_plain.specs.Edits.{is_empty}
 use Rattle.xdb_plain.specs.Legal.{after_all}
 use Rattle.xdb_plain.specs.Replies.{same_by}
-use Rattle.xdb_plain.specs.Runs.{IsBlock, block_len, run_at, first_run, is_not_yet, is_no_such}
+use Rattle.xdb_plain.specs.Runs.{IsBlock, block_len, run_at, is_not_yet, is_no_such}
 use Rattle.xdb_plain.specs.Scripts.{tables_below}
 use Rattle.xdb_plain.specs.State.{Plain, opening}
 use Rattle.xdb_plain.specs.Steps.{is_db}
@@ -14,8 +13,7 @@ use Rattle.xdb_plain.specs.Tables.{TableOps}
 use Rattle.xdb_plain.specs.declared.act.Act.{Act}
 use Rattle.xdb_plain.specs.declared.act.Act.TheVariants as act
 use Rattle.xdb_plain.specs.declared.act.By.{By}
-use Rattle.xdb_plain.specs.declared.act.By.TheVariants.{Client, Db}
-use Rattle.xdb_plain.specs.declared.act.StatusForm.{StatusForm}
+use Rattle.xdb_plain.specs.declared.act.By.TheVariants.{Client}
 use Rattle.xdb_plain.specs.declared.act.StatusForm.TheVariants as status_form
 use Rattle.xdb_plain.specs.declared.reply.Reply.{Reply}
 use Rattle.xdb_plain.specs.declared.reply.Reply.TheVariants as reply

@@ -18,7 +18,9 @@ pub fn history_goes_on()
     ensures right { (p : Plain) (notes : List Note) (note : Note)
         → Right p notes → MayStand (after_all p notes) note → AnswersRight (after_all p notes) note.act note.reply
         → Right p (notes ++ note ∷ []) }
-    ensures legal { (p : Plain) (notes : List Note) → Right p notes → Legal p notes }
+    ensures legal { (p : Plain) (notes : List Note) (note : Note)
+        → Legal p notes → MayStand (after_all p notes) note → Legal p (notes ++ note ∷ []) }
+    ensures right_is_legal { (p : Plain) (notes : List Note) → Right p notes → Legal p notes }
 {}
 
 /// A run goes on by one line and its block, and ends with the drain.

@@ -1,6 +1,0 @@
-use Rattle.std.proofs.Common.{◌≡◌, take}
-use Rattle.xdb_plain.specs.Printed.{text_of}
-use Rattle.excisedb.proofs.text.text.Given as goal
-
-abbrev pub invariant-loop-note : goal.invariant-loop-note
-invariant-loop-note l = l.out.items ≡ text_of (take l.note-index l.notes)
