@@ -1,26 +1,21 @@
 -- Histories with loads that cut out a span.
-use Rattle.std.specs.Prelude.{ℕ, ◌-◌, ◌^◌, true, false, List, [], ◌∷◌, ◌++◌, map, replicate, Option, Some, None, codes}
-use Rattle.std.specs.Fmt.{decimal}
-use Rattle.std.specs.List.{range_with_len}
+use Rattle.std.specs.Prelude.{ℕ, true, List, [], ◌∷◌, ◌++◌, replicate, Some, None, codes}
 use Rattle.xdb_key.specs.Bounds.{successor}
 use Rattle.xdb_key.specs.declared.op.Op.{Op}
-use Rattle.xdb_key.specs.declared.op.Op.TheVariants.{Set, Del, DelSpan}
-use Rattle.xdb_key.specs.declared.state.SnapState.TheVariants as state
+use Rattle.xdb_key.specs.declared.op.Op.TheVariants.{Set, Del}
 use Rattle.xdb_meta.specs.Table.{Table}
 use Rattle.xdb_edit.specs.Changes.{changes}
 use Rattle.xdb_edit.specs.Versions.{no_tables}
 use Rattle.xdb_plain.specs.Tables.{TableOps, table_ops}
-use Rattle.xdb_plain.specs.declared.act.Act.TheVariants.{Commit, Seal, FlushTake, CompactTake, Put, Build, Work, LoadOpen, LoadKept, Install, Snap, Drop, Status, Cursor, Shut, Ask, Settle, Reap, Remove, Show}
+use Rattle.xdb_plain.specs.declared.act.Act.TheVariants.{FlushTake, CompactTake, Put, Install, Snap, Settle, Reap, Remove, Show}
 use Rattle.xdb_plain.specs.declared.act.ShowWhat.TheVariants as show
-use Rattle.xdb_plain.specs.declared.act.StatusForm.TheVariants as status_form
 use Rattle.xdb_plain.specs.declared.act.Which.TheVariants.{Auto}
-use Rattle.xdb_plain.specs.declared.answer.Answer.TheVariants.{Value, Absent, Found, Pair, End}
+use Rattle.xdb_plain.specs.declared.answer.Answer.TheVariants.{Value, Absent, Found}
 use Rattle.xdb_plain.specs.declared.note.HoldNote.TheVariants.{Hold, Release}
 use Rattle.xdb_plain.specs.declared.note.Note.{Note}
-use Rattle.xdb_plain.specs.declared.question.Question.TheVariants.{Get, Scan, RScan, Move}
-use Rattle.xdb_plain.specs.declared.question.Step.TheVariants.{First, Last, Next, Prev, Seek, SeekLt}
+use Rattle.xdb_plain.specs.declared.question.Question.TheVariants.{Scan}
 use Rattle.xdb_plain.specs.declared.reply.Reply.TheVariants as reply
-use Rattle.xdb_rows.specs.Notes.{c1, c2, db, holding, changing, trying, from_to, from_upto, file_table, table_of_key, loaded_table, half_of, put, del, delspan, batch, read, get, get_at, scan, put_flush, flushed, excise, install, load, levels_0, levels_0_6, compact_l0, let_go, ask_held, ask_answered, ask_refused}
+use Rattle.xdb_rows.specs.Notes.{c1, c2, db, holding, changing, trying, from_to, from_upto, file_table, table_of_key, loaded_table, half_of, put, delspan, batch, read, get, scan, put_flush, flushed, excise, install, load, levels_0, levels_0_6, compact_l0, let_go, ask_held}
 
 abbrev pub five_keys : List Op
 five_keys =

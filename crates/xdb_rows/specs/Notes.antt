@@ -1,12 +1,12 @@
 -- Short ways to write notes, tables and edits.
-use Rattle.std.specs.Prelude.{ℕ, ◌+◌, ◌/◌, Bool, true, false, List, [], ◌∷◌, ◌++◌, Option, Some, None, codes}
+use Rattle.std.specs.Prelude.{ℕ, ◌+◌, ◌/◌, Bool, true, false, List, [], ◌∷◌, Option, Some, None}
 use Rattle.xdb_key.specs.Bounds.{Bounds, bounds, successor}
 use Rattle.xdb_key.specs.declared.op.Op.{Op}
 use Rattle.xdb_key.specs.declared.op.Op.TheVariants.{Set, Del, DelSpan}
 use Rattle.xdb_meta.specs.Table.{Table}
 use Rattle.xdb_edit.specs.Changes.{Changes, changes}
 use Rattle.xdb_edit.specs.Versions.{LevelLists}
-use Rattle.xdb_plain.specs.Tables.{TableOps, table_ops}
+use Rattle.xdb_plain.specs.Tables.{TableOps}
 use Rattle.xdb_plain.specs.declared.act.Act.{Act}
 use Rattle.xdb_plain.specs.declared.act.Act.TheVariants as act
 use Rattle.xdb_plain.specs.declared.act.By.{By}
@@ -14,7 +14,6 @@ use Rattle.xdb_plain.specs.declared.act.By.TheVariants.{Client, Db}
 use Rattle.xdb_plain.specs.declared.act.CommitForm.TheVariants as form
 use Rattle.xdb_plain.specs.declared.act.Which.TheVariants.{At}
 use Rattle.xdb_plain.specs.declared.answer.Answer.{Answer}
-use Rattle.xdb_plain.specs.declared.answer.Answer.TheVariants.{Value, Absent}
 use Rattle.xdb_plain.specs.declared.note.HoldNote.{HoldNote}
 use Rattle.xdb_plain.specs.declared.note.HoldNote.TheVariants.{Hold, Release}
 use Rattle.xdb_plain.specs.declared.note.Note.{Note}
