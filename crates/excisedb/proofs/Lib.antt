@@ -1,5 +1,5 @@
 pub mod StoreLaws
 pub mod SessionLaws
-pub mod TextLaws
 pub mod ReaderLaws
 pub mod TopLaws
+pub mod ScriptLaws

@@ -1,7 +1,7 @@
 -- Lines, words and commands: what the reader finds is what the grammar says.
-use Rattle.std.proofs.Common.{◌≡◌, ℕ, zero, suc, ◌+◌, ◌-◌, ◌/◌, ◌%◌, ◌<◌, ◌≤◌, Bool, true, false, cond, not, ◌&&◌, eqb, leb, List, [], ◌∷◌, ◌++◌, length, get_or, take, drop, map, Option, Some, None, append_assoc, append-nil, refl, sym, ap, subst, ◌∙◌, inl, inr, ◌⊎◌, arith, IsTrue}
+use Rattle.std.proofs.Common.{◌≡◌, ℕ, zero, suc, ◌+◌, ◌/◌, ◌%◌, ◌<◌, ◌≤◌, Bool, true, false, cond, not, eqb, leb, List, [], ◌∷◌, ◌++◌, length, get_or, take, drop, map, Option, Some, None, append_assoc, append-nil, refl, sym, ap, subst, ◌∙◌, inl, inr, ◌⊎◌, arith}
 use Rattle.std.specs.Prelude.{codes}
-use Rattle.std.proofs.lemmas.Bool.{and_parts, and_from, eq-eqb, ne_eqb, eqb-true, leb-true, le-leb, false≢true, true≢false, cases_eq}
+use Rattle.std.proofs.lemmas.Bool.{and_parts, and_from, eq-eqb, ne_eqb, eqb-true, leb-true, le-leb, false≢true, true≢false}
 use Rattle.std.specs.List.{slice_split, onto_first, list_all, flat_map, join_with_byte}
 use Rattle.std.proofs.lemmas.List.Splits.{slice_split-cons_yes, slice_split-cons_no, join_with_byte-slice_split}
 use Rattle.std.proofs.lemmas.Fmt.{decimal_digit, decimal-digits_of}
@@ -14,8 +14,7 @@ use Rattle.xdb_key.specs.declared.op.Op.{Op}
 use Rattle.xdb_key.specs.declared.op.Op.TheVariants as op
 use Rattle.xdb_plain.specs.declared.act.CommitForm.{CommitForm}
 use Rattle.xdb_plain.specs.declared.act.CommitForm.TheVariants as form
-use Rattle.xdb_plain.specs.declared.act.Question.{Question}
-use Rattle.xdb_plain.specs.declared.act.Question.TheVariants.{Get}
+use Rattle.xdb_plain.specs.declared.question.Question.TheVariants.{Get}
 use Rattle.xdb_plain.specs.declared.script.Cmd.{Cmd}
 use Rattle.xdb_plain.specs.declared.script.Cmd.TheVariants as cmd
 use Rattle.xdb_plain.specs.Words.{is_plain, byte_word, hex_digit, string_word, cmd_words}
@@ -149,7 +148,7 @@ put-of key value k v = record {
   value_text = v;
 }
 
-get-of : (key : List ℕ) (parted : Bool) → is_text 1024 key ≡ true → not parted ≡ true → IsGetOf (cmd.Ask (Get key) parted)
+get-of : (key : List ℕ) (parted : Bool) → is_text 1024 key ≡ true → not parted ≡ true → IsGetOf (cmd.Ask (Get key None) parted)
 get-of key true k whole = cc
 get-of key false k whole = record { key = key; is = λ i. codes "get" ∷ text-itself 1024 key k i ∷ []; key_text = k }
 
@@ -166,7 +165,8 @@ commit-of form.Batch ops c = absurd c
 -- a command is a put or a get
 pub command-of : (c : Cmd) → IsCommand c → IsPutOf c ⊎ IsGetOf c
 command-of (cmd.Commit f ops) c = inl (commit-of f ops c)
-command-of (cmd.Ask (Get key) parted) c = inr (get-of key parted c.0 c.1)
+command-of (cmd.Ask (Get key None) parted) c = inr (get-of key parted c.0 c.1)
+command-of _ c = absurd c
 
 verbs-differ : {A : Type 0} → codes "put" ≡ codes "get" → A
 verbs-differ e = absurd (true≢false (ap (λ word. eq_by_cmp key_cmp word (codes "put")) e))
@@ -206,7 +206,7 @@ no-get word bad c is spelled = elim (command-of c is) [
   | inr g ↦ let key : word ≡ g.key = one-word word g.key (rest-is (spelled ∙ g.is)) in false≢true (sym bad ∙ ap (is_text 1024) key ∙ g.key_text)
 ]
 
-pub a-get : (word key : List ℕ) → key ≡ word → is_text 1024 word ≡ true → ReadsBehind (codes "get") word (Some (cmd.Ask (Get key) false))
+pub a-get : (word key : List ℕ) → key ≡ word → is_text 1024 word ≡ true → ReadsBehind (codes "get") word (Some (cmd.Ask (Get key None) false))
 a-get word key same text =
     let key_text : is_text 1024 key ≡ true = ap (is_text 1024) same ∙ text in
     ((key_text, refl), ap (λ ws. codes "get" ∷ ws) (text-one-word 1024 word text) ∙ (λ i. codes "get" ∷ (sym same ∙ sym (text-itself 1024 key key_text)) i ∷ []))
@@ -259,19 +259,21 @@ words-of bytes line c = elim (command-of line.cmd c) [
 pub one-word-no-line : (number : ℕ) (bytes : List ℕ) → words_in bytes ≡ bytes ∷ [] → ReadsLine number bytes None
 one-word-no-line number bytes one line is =
     let w = words-of bytes line is.command in
-    one-not-more (sym one ∙ is.words ∙ ap (λ ws. by_word line.by ∷ ws) w.is)
+    one-not-more (sym one ∙ is.words ∙ ap (λ ws. by_word is.by ∷ ws) w.is)
 
 -- no client's word begins it
 pub no-client-no-line : (number : ℕ) (bytes who rest : List ℕ) → words_in bytes ≡ who ∷ words_in rest → NoClientWord who → ReadsLine number bytes None
-no-client-no-line number bytes who rest cut none line is = none line.by is.client (first-is (sym cut ∙ is.words))
+no-client-no-line number bytes who rest cut none line is = none is.by is.client (first-is (sym cut ∙ is.words))
 
 -- no command follows
 pub no-command-no-line : (number : ℕ) (bytes who rest : List ℕ) → words_in bytes ≡ who ∷ words_in rest → ReadsCommand rest None → ReadsLine number bytes None
 no-command-no-line number bytes who rest cut none line is = none line.cmd is.command (rest-is (sym cut ∙ is.words))
 
-pub a-line : (number : ℕ) (bytes who rest : List ℕ) (by : By) (c : Cmd) → words_in bytes ≡ who ∷ words_in rest → IsClientWord who by → ReadsCommand rest (Some c) → ReadsLine number bytes (Some record { number = number; by = by; cmd = c })
+pub a-line : (number : ℕ) (bytes who rest : List ℕ) (by : By) (c : Cmd) → words_in bytes ≡ who ∷ words_in rest → IsClientWord who by → ReadsCommand rest (Some c) → ReadsLine number bytes (Some record { number = number; by = Some by; cmd = c })
 a-line number bytes who rest by c cut client command = record {
   numbered = refl;
+  by = by;
+  said = refl;
   client = client.0;
   command = command.0;
   words = cut ∙ (λ i. client.1 i ∷ command.1 i);

@@ -1,12 +1,9 @@
 -- What the last operation that speaks of a key says is what the map has there.
 use Rattle.std.proofs.Common.{◌≡◌, ℕ, Bool, true, false, cond, not, List, [], ◌∷◌, ◌++◌, length, arith, Option, Some, None, refl, sym, ap, ◌∙◌}
-use Rattle.std.specs.Option.{unwrap_or}
-use Rattle.std.specs.declared.cmp.Ordering.{Ordering}
-use Rattle.std.specs.declared.cmp.Ordering.TheVariants.{Equal}
 use Rattle.std.specs.Ordering.{eq_by_cmp}
 use Rattle.std.specs.FinMap as map
 use Rattle.xdb_key.specs.Order.{key_cmp}
-use Rattle.xdb_key.specs.Bounds.{Bounds, holds}
+use Rattle.xdb_key.specs.Bounds.{holds}
 use Rattle.xdb_key.proofs.OrderLaws.{key_total, key_exact}
 use Rattle.xdb_key.specs.declared.op.Op.{Op}
 use Rattle.xdb_key.specs.declared.op.Op.TheVariants.{Set, Del, DelSpan}

@@ -1,25 +1,25 @@
 -- From the parts of a call to what it has read and written.
-use Rattle.std.proofs.Common.{◌≡◌, ◌≢◌, ◌⊎◌, ℕ, ◌+◌, ◌<◌, ◌≤◌, Bool, true, false, not, ◌&&◌, List, [], ◌∷◌, ◌++◌, length, take, Option, Some, None, refl, sym, ap, subst, ◌∙◌, inl, inr, arith}
+use Rattle.std.proofs.Common.{◌≡◌, ℕ, ◌+◌, ◌<◌, ◌≤◌, true, List, [], ◌∷◌, length, take, Option, Some, None, refl, sym, ap, subst, ◌∙◌, inl, inr, arith}
 use Rattle.std.specs.List.{list_all}
 use Rattle.std.specs.Io.KnownBytes.{Appends, Consumes, IsAtEnd, prepend_known, append_known}
 use Rattle.std.proofs.lemmas.Bool.{and_from, cases_lt}
 use Rattle.xdb_device.specs.Streams.{Grew}
-use Rattle.xdb_plain.specs.declared.act.CommitForm.{CommitForm}
-use Rattle.xdb_plain.specs.declared.act.Question.TheVariants.{Get}
+use Rattle.xdb_plain.specs.declared.question.Question.TheVariants.{Get}
 use Rattle.xdb_plain.specs.declared.script.Cmd.{Cmd}
 use Rattle.xdb_plain.specs.declared.script.Cmd.TheVariants as cmd
 use Rattle.xdb_plain.specs.declared.script.Line.{Line}
-use Rattle.xdb_plain.specs.Steps.{is_by_client}
-use Rattle.excisedb.specs.Grammar.{IsCommand, IsLine, AreLines, Spells, most_bytes}
+use Rattle.xdb_plain.specs.Scripts.{by_client}
+use Rattle.excisedb.specs.Grammar.{IsCommand, AreLines, most_bytes}
 use Rattle.excisedb.specs.Kept.{is_whole, is_run}
-use Rattle.excisedb.specs.Ends.{run_words, usage_text, form_text, AreRead, IsReply, IsRefusal, IsUsage, IsAnswered, MayWrite, WritesWhole, WritesPart, Ends}
-use Rattle.excisedb.specs.Outcome.{Replies, IsPart, IsSent}
+use Rattle.excisedb.specs.Ends.{run_words, usage_text, AreRead, IsReply, IsRefusal, IsUsage, IsAnswered, MayWrite, Ends}
+use Rattle.excisedb.specs.Outcome.{Replies, IsSent}
 use Rattle.excisedb.specs.declared.status.Status.{Status}
 use Rattle.excisedb.specs.declared.status.Status.TheVariants.{Done, Words, Script, ReadFault, WriteFault, Memory}
 
 whole-command : (c : Cmd) → IsCommand c → is_whole c ≡ true
 whole-command (cmd.Commit form ops) is = refl
-whole-command (cmd.Ask (Get key) parted) is = is.1
+whole-command (cmd.Ask (Get key None) parted) is = is.1
+whole-command _ is = absurd is
 
 -- the lines that are spelled can be run
 pub lines-run : (number : ℕ) (parts : List (List ℕ)) (lines : List Line) → AreLines number parts lines → list_all is_run lines ≡ true
@@ -27,7 +27,7 @@ lines-run number [] [] h = refl
 lines-run number [] (line ∷ lines) h = absurd h
 lines-run number (part ∷ parts) [] h = absurd h
 lines-run number (part ∷ parts) (line ∷ lines) h =
-    and_from (is_run line) (list_all is_run lines) (and_from (is_by_client line.by) (is_whole line.cmd) h.0.client (whole-command line.cmd h.0.command)) (lines-run (number + 1) parts lines h.1)
+    and_from (is_run line) (list_all is_run lines) (and_from (by_client line.by) (is_whole line.cmd) (ap by_client h.0.said ∙ h.0.client) (whole-command line.cmd h.0.command)) (lines-run (number + 1) parts lines h.1)
 
 appends : (old new : Option (List ℕ)) (text : List ℕ) → new ≡ append_known old text → Appends old new text
 appends None new text e = tt

@@ -30,8 +30,8 @@ pub record IsReply (bytes text : List ℕ) : Type 0 where
   pub lines : List Line
   pub notes : List Note
   pub spelled : Spells bytes lines
-  pub right : IsRight notes
-  pub run : IsRunOf lines notes
+  pub right : IsRight 1 1 notes
+  pub run : IsRunOf 1 1 lines notes
   pub printed : text ≡ text_of notes
 
 -- the bytes spell no script, and the text says so

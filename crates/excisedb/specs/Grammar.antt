@@ -1,17 +1,16 @@
 -- The grammar of scripts: which lists of lines a byte string spells.
-use Rattle.std.specs.Prelude.{◌≡◌, ℕ, ◌+◌, ◌≤◌, Bool, ◌&&◌, not, List, [], ◌∷◌, length, IsTrue, nat_le, ◌==◌}
+use Rattle.std.specs.Prelude.{◌≡◌, ℕ, ◌+◌, ◌≤◌, Bool, ◌&&◌, not, List, [], ◌∷◌, length, Some, None, IsTrue, nat_le, ◌==◌}
 use Rattle.std.specs.List.{slice_split, list_all}
 use Rattle.xdb_key.specs.declared.op.Op.{Op}
 use Rattle.xdb_key.specs.declared.op.Op.TheVariants as op
 use Rattle.xdb_plain.specs.declared.act.By.{By}
 use Rattle.xdb_plain.specs.declared.act.CommitForm.{CommitForm}
 use Rattle.xdb_plain.specs.declared.act.CommitForm.TheVariants as form
-use Rattle.xdb_plain.specs.declared.act.Question.{Question}
-use Rattle.xdb_plain.specs.declared.act.Question.TheVariants.{Get}
+use Rattle.xdb_plain.specs.declared.question.Question.TheVariants.{Get}
 use Rattle.xdb_plain.specs.declared.script.Cmd.{Cmd}
 use Rattle.xdb_plain.specs.declared.script.Cmd.TheVariants as cmd
 use Rattle.xdb_plain.specs.declared.script.Line.{Line}
-use Rattle.xdb_plain.specs.Steps.{is_by_client}
+use Rattle.xdb_plain.specs.Steps.{is_client}
 use Rattle.xdb_plain.specs.Words.{is_plain, by_word, cmd_words}
 
 -- the most bytes that a script has: 1 MiB
@@ -49,14 +48,17 @@ IsPut _ _ = ⊥
 -- the commands that there are: a put, and a get that is no part of another
 abbrev pub IsCommand : Cmd → Type 0
 IsCommand (cmd.Commit form ops) = IsPut form ops
-IsCommand (cmd.Ask (Get key) parted) = IsTrue (is_text 1024 key) × IsTrue (not parted)
+IsCommand (cmd.Ask (Get key None) parted) = IsTrue (is_text 1024 key) × IsTrue (not parted)
+IsCommand _ = ⊥
 
 -- the line of that number says what these bytes spell
 pub record IsLine (number : ℕ) (bytes : List ℕ) (line : Line) : Type 0 where
   pub numbered : line.number ≡ number
-  pub client : IsTrue (is_by_client line.by)
+  pub by : By
+  pub said : line.by ≡ Some by
+  pub client : IsTrue (is_client by)
   pub command : IsCommand line.cmd
-  pub words : words_in bytes ≡ by_word line.by ∷ cmd_words line.cmd
+  pub words : words_in bytes ≡ by_word by ∷ cmd_words line.cmd
 
 -- each part is the line at its place; the first has this number
 abbrev pub AreLines : ℕ → List (List ℕ) → List Line → Type 0

@@ -1,55 +1,101 @@
--- What a session keeps: a right history, and the map that it has come to.
-use Rattle.std.specs.Prelude.{◌≡◌, ℕ, ◌≤◌, Bool, true, false, not, ◌&&◌, List, [], ◌++◌, length, IsTrue}
+-- What a session keeps: a right history, and what it has come to.
+use Rattle.std.specs.Prelude.{◌≡◌, ℕ, ◌+◌, ◌≤◌, ◌^◌, Bool, true, false, not, ◌&&◌, List, [], ◌++◌, length, Option, None, nat_lt}
+use Rattle.std.specs.FinMap as map
+use Rattle.xdb_history.specs.Recorded.{Recorded, state_of}
 use Rattle.xdb_key.specs.declared.op.Op.{Op}
+use Rattle.xdb_plain.specs.Answers.{value_or_absent}
+use Rattle.xdb_plain.specs.Counts.{dead}
 use Rattle.xdb_plain.specs.PlainMap.{PlainMap, acted_all}
 use Rattle.xdb_plain.specs.State.{Plain, opening}
-use Rattle.xdb_plain.specs.Steps.{is_by_client}
-use Rattle.xdb_plain.specs.Legal.{after_all, IsRight}
-use Rattle.xdb_plain.specs.Runs.{IsBlock}
+use Rattle.xdb_plain.specs.Scripts.{by_client}
+use Rattle.xdb_plain.specs.Legal.{after_all, Right}
+use Rattle.xdb_plain.specs.Runs.{Run, IsBlock}
+use Rattle.xdb_plain.specs.declared.act.Act.{Act}
 use Rattle.xdb_plain.specs.declared.act.By.{By}
 use Rattle.xdb_plain.specs.declared.act.Act.TheVariants as act
-use Rattle.xdb_plain.specs.declared.act.Question.{Question}
+use Rattle.xdb_plain.specs.declared.question.Question.{Question}
+use Rattle.xdb_plain.specs.declared.question.Question.TheVariants.{Get}
 use Rattle.xdb_plain.specs.declared.answer.Answer.{Answer}
-use Rattle.xdb_plain.specs.declared.answer.Reply.{Reply}
-use Rattle.xdb_plain.specs.declared.answer.Reply.TheVariants.{Done, Answered, Asked, Memory}
+use Rattle.xdb_plain.specs.declared.answer.Answer.TheVariants.{Absent}
+use Rattle.xdb_plain.specs.declared.reply.Reply.{Reply}
+use Rattle.xdb_plain.specs.declared.reply.Reply.TheVariants.{Done, Answered, Asked, Spent, Memory}
 use Rattle.xdb_plain.specs.declared.note.Note.{Note}
 use Rattle.xdb_plain.specs.declared.script.Cmd.{Cmd}
 use Rattle.xdb_plain.specs.declared.script.Cmd.TheVariants as cmd
 use Rattle.xdb_plain.specs.declared.script.Line.{Line}
 
--- no question is open between two commands
-abbrev pub at_rest : PlainMap → ℕ → Plain
-at_rest map asked = record { map = map; asked = asked; questions = [] }
+-- between two commands no question is open, and there never is a load, a snapshot or a file
+pub record AtRest (map : PlainMap) (next asked : ℕ) (p : Plain) : Type 0 where
+  pub same_map : p.map ≡ map
+  pub same_next : p.next ≡ next
+  pub same_asked : p.asked ≡ asked
+  pub no_questions : p.questions ≡ []
+  pub no_loads : p.loads ≡ []
+  pub no_files : p.known ≡ []
 
-pub record IsKept (map : PlainMap) (asked : ℕ) (notes : List Note) : Type 0 where
-  pub right : IsRight notes
-  pub state : after_all opening notes ≡ at_rest map asked
-  pub few : asked ≤ length notes
+pub record IsKept (map : PlainMap) (next asked : ℕ) (h : Recorded) : Type 0 where
+  pub first_seq : h.first_seq ≡ 1
+  pub first_file : h.first_file ≡ 1
+  pub right : Right (opening h.first_seq h.first_file) h.notes
+  pub rest : AtRest map next asked (state_of h)
+  pub upto : next ≤ 2 ^ 56
+
+-- there is no file to be removed
+abbrev pub IsClean : List Note → Type 0
+IsClean notes = dead (after_all (opening 1 1) notes) ≡ []
 
 -- the history goes on by the block of a command
-pub record Adds (old new : List Note) (by : By) (cmd : Cmd) : Type 0 where
+pub record Adds (old new : List Note) (by : Option By) (cmd : Cmd) : Type 0 where
   pub block : List Note
   pub added : new ≡ old ++ block
-  pub is_block : IsBlock by cmd block
+  pub is_block : (r : Run) → IsBlock r by cmd block
 
--- a line by a client, whose question isn't in parts
+-- a question for the value that a key has now
+abbrev pub is_get : Question → Bool
+is_get (Get key None) = true
+is_get _ = false
+
+-- a commit, or a read that isn't in parts
 abbrev pub is_whole : Cmd → Bool
 is_whole (cmd.Commit form ops) = true
-is_whole (cmd.Ask question parted) = not parted
+is_whole (cmd.Ask question parted) = is_get question && not parted
+is_whole _ = false
 
 abbrev pub is_run : Line → Bool
-is_run line = is_by_client line.by && is_whole line.cmd
+is_run line = by_client line.by && is_whole line.cmd
 
--- a commit took effect, or memory was wanting and it did not
-abbrev pub IsCommitted : PlainMap → PlainMap → List Op → Reply → Type 0
-IsCommitted old new ops Done = new ≡ acted_all old ops
-IsCommitted old new ops Memory = new ≡ old
-IsCommitted old new ops (Asked ask) = ⊥
-IsCommitted old new ops (Answered answer) = ⊥
+-- the answer to such a question
+abbrev pub got : PlainMap → Question → Answer
+got m (Get key at) = value_or_absent (map.get m key)
+got m _ = Absent
+
+-- there are no numbers for so many operations
+abbrev pub is_spent : ℕ → ℕ → Bool
+is_spent next count = nat_lt (2 ^ 56) (next + count)
+
+pub record IsDone (old new : PlainMap) (next later : ℕ) (ops : List Op) : Type 0 where
+  pub acted : new ≡ acted_all old ops
+  pub counted : later ≡ next + length ops
+  pub enough : is_spent next (length ops) ≡ false
+
+pub record IsSame (old new : PlainMap) (next later : ℕ) : Type 0 where
+  pub same_map : new ≡ old
+  pub same_next : later ≡ next
+
+-- a commit took effect, or numbers or memory were wanting and it did not
+abbrev pub IsCommitted : PlainMap → PlainMap → ℕ → ℕ → List Op → Reply → Type 0
+IsCommitted old new next later ops Done = IsDone old new next later ops
+IsCommitted old new next later ops Memory = IsSame old new next later × (is_spent next (length ops) ≡ false)
+IsCommitted old new next later ops Spent = IsSame old new next later × (is_spent next (length ops) ≡ true)
+IsCommitted old new next later ops _ = ⊥
+
+-- a note of a step that changes no tables, holds no version and tries no number
+abbrev pub plain_note : By → Act → Reply → Note
+plain_note by a reply = record { by = by; act = a; reply = reply; edit = None; holds = []; tried = [] }
 
 -- a note of a question that isn't in parts
 abbrev pub read_note : ℕ → By → Question → Reply → Note
-read_note ask by question reply = record { by = by; act = act.Ask ask question false; reply = reply }
+read_note ask by question reply = plain_note by (act.Ask ask question false) reply
 
 abbrev pub opened : ℕ → By → Question → Note
 opened ask by question = read_note ask by question (Asked ask)

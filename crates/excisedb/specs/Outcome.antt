@@ -1,5 +1,5 @@
 -- What the steps of a call come to.
-use Rattle.std.specs.Prelude.{◌≡◌, ◌⊎◌, ℕ, ◌<◌, ◌≤◌, Option, List, length, take}
+use Rattle.std.specs.Prelude.{◌≡◌, ◌⊎◌, ℕ, ◌≤◌, Option, List, length, take}
 use Rattle.std.specs.Io.KnownBytes.{append_known}
 use Rattle.excisedb.specs.Ends.{IsReply, IsRefusal}
 use Rattle.excisedb.specs.declared.status.Status.{Status}

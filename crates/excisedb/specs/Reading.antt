@@ -1,9 +1,7 @@
 -- What the parts of the script reader find.
-use Rattle.std.specs.Prelude.{◌≡◌, ℕ, ◌<◌, ◌≤◌, Bool, false, not, List, [], ◌∷◌, length, Option, Some, None, MatchOption, IsTrue, codes, ◌==◌}
-use Rattle.std.specs.List.{slice_split, list_all}
-use Rattle.std.specs.Fmt.{decimal}
-use Rattle.xdb_key.specs.declared.op.Op.{Op}
-use Rattle.xdb_plain.specs.Steps.{is_by_client}
+use Rattle.std.specs.Prelude.{◌≡◌, ℕ, ◌<◌, List, ◌∷◌, length, Option, Some, None, IsTrue, ◌==◌}
+use Rattle.std.specs.List.{slice_split}
+use Rattle.xdb_plain.specs.Steps.{is_client}
 use Rattle.xdb_plain.specs.Words.{by_word, cmd_words}
 use Rattle.xdb_plain.specs.declared.act.By.{By}
 use Rattle.xdb_plain.specs.declared.script.Cmd.{Cmd}
@@ -17,10 +15,10 @@ pub record IsCut (separator : ℕ) (bytes part rest : List ℕ) : Type 0 where
 
 -- the word is the client's
 abbrev pub IsClientWord : List ℕ → By → Type 0
-IsClientWord word by = IsTrue (is_by_client by) × (word ≡ by_word by)
+IsClientWord word by = IsTrue (is_client by) × (word ≡ by_word by)
 
 abbrev pub NoClientWord : List ℕ → Type 0
-NoClientWord word = (by : By) → IsTrue (is_by_client by) → word ≡ by_word by → ⊥
+NoClientWord word = (by : By) → IsTrue (is_client by) → word ≡ by_word by → ⊥
 
 -- a command that the bytes spell, or none that they do
 abbrev pub ReadsCommand : List ℕ → Option Cmd → Type 0

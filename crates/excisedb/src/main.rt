@@ -7,10 +7,11 @@ mod status;
 mod store;
 #[cfg(test)]
 mod tests;
-mod text;
 mod top;
 mod words;
 
+use status::Status;
+use std::alloc::AllocError;
 use std::process::ExitCode;
 use xdb_device::{StdSink, StdSource};
 
@@ -18,8 +19,9 @@ fn main(rt: HostRuntime) -> ExitCode {
     let mut script = StdSource::new(rt.stdin());
     let mut out = StdSink::new(rt.stdout());
     let status = match words::given(&rt) {
-        Some(words) => top::top(rt.alloc(), &words, &mut script, &mut out),
-        None => top::top(rt.alloc(), &[], &mut script, &mut out),
+        Ok(Some(words)) => top::top(rt.alloc(), &words, &mut script, &mut out),
+        Ok(None) => top::top(rt.alloc(), &[], &mut script, &mut out),
+        Err(AllocError) => Status::Memory,
     };
     ExitCode::from(status.code())
 }

@@ -6,10 +6,10 @@ ghost use Rattle.xdb_plain.specs.Words.{is_plain};
 ghost use Rattle.excisedb.specs.Grammar.{SpellsNothing, Spells, is_text, lines_in, most_bytes};
 ghost use Rattle.excisedb.specs.Reading.{IsCut, IsClientWord, NoClientWord, ReadsLine, ReadsCommand, ReadsBehind};
 
-use crate::text::is_plain;
 use std::alloc::{AllocError, Global};
 use xdb_key::{Key, MAX_KEY, MAX_VALUE, Op, Ops, Val};
 use xdb_plain::{By, Cmd, CommitForm, Line, Question, Script};
+use xdb_text::is_plain;
 
 /// The most bytes that a script has.
 pub const MAX_SCRIPT: usize = 1_048_576;
@@ -82,7 +82,11 @@ fn read_line(alloc: Global, number: u64, part: &[u8]) -> Result<Option<Line>, Al
     let Some(cmd) = read_command(alloc, rest)? else {
         return Ok(None);
     };
-    Ok(Some(Line { number, by, cmd }))
+    Ok(Some(Line {
+        number,
+        by: Some(by),
+        cmd,
+    }))
 }
 
 /// The client of a word from `c1` to `c16`.
@@ -156,7 +160,7 @@ fn read_get(alloc: Global, word: &[u8]) -> Result<Option<Cmd>, AllocError>
     let Some(key) = read_key(alloc, word)? else {
         return Ok(None);
     };
-    let question = Question::Get { key };
+    let question = Question::Get { key, at: None };
     Ok(Some(Cmd::Ask {
         question,
         parted: false,

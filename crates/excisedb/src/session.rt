@@ -1,26 +1,32 @@
 //! Commands one after another, and the history that they make.
-ghost use Rattle.std.specs.Prelude.{◌≡◌, [], List, length, IsTrue, false, IfOk, IfErr, OnOk, OnErr};
+ghost use Rattle.std.specs.Prelude.{◌≡◌, ◌≤◌, ◌^◌, [], List, IsTrue, false, Some, IfOk, IfErr, OnOk, OnErr};
 ghost use Rattle.std.specs.List.{list_all};
-ghost use Rattle.xdb_plain.specs.Steps.{is_by_client};
+ghost use Rattle.xdb_plain.specs.Steps.{is_client};
 ghost use Rattle.xdb_plain.specs.Legal.{IsRight};
-ghost use Rattle.xdb_plain.specs.Runs.{IsRunOf};
+ghost use Rattle.xdb_plain.specs.Runs.{first_run, AreBlocks, IsRunOf};
+ghost use Rattle.xdb_plain.specs.State.{opening};
 ghost use Rattle.xdb_plain.specs.declared.script.Cmd.TheVariants as cmd;
-ghost use Rattle.xdb_plain.specs.Answers.{answer_of};
 ghost use Rattle.xdb_plain.specs.declared.act.Act.TheVariants as act;
-ghost use Rattle.excisedb.specs.Kept.{Adds, is_run, IsCommitted, read_note, opened, answered, lacked};
+ghost use Rattle.excisedb.specs.Kept.{Adds, IsClean, is_run, is_get, IsCommitted, plain_note, read_note, opened, answered, lacked, got};
 
 use crate::store::Store;
 use std::alloc::{AllocError, Global};
 use std::marker::Model;
+use xdb_history::History;
 use xdb_key::Ops;
-use xdb_plain::{Act, Answer, By, Cmd, CommitForm, Line, Note, Question, Reply, Script};
+use xdb_plain::{Act, Answer, By, Cmd, CommitForm, Items, Line, Note, Question, Reply, Script};
 
-/// The store and the history of what it was asked, seen as that history.
+/// Sequence numbers are below this one.
+const END: u64 = 1 << 56;
+
+/// The store and the history of what it was asked, seen as the notes of that history.
 #[derive(Drop)]
 struct Session {
+    alloc: Global,
     store: Store,
+    next: u64,
     asked: u64,
-    notes: Vec<Note>,
+    history: History,
 }
 
 impl Model for Session {
@@ -30,22 +36,30 @@ impl Model for Session {
 
     ghost Value = { List Note };
 
-    ghost view = { λ s. s.notes.items };
+    ghost view = { λ s. s.history.notes };
 
-    ghost invariant = { λ s. IsKept s.store s.asked s.notes.items };
+    ghost invariant = { λ s. IsKept s.store s.next s.asked s.history };
 }
 
 /// The history of a script's lines, one after another.
 pub fn run(alloc: Global, script: Script) -> Result<Vec<Note>, AllocError>
     requires { IsTrue (list_all is_run script) }
-    ensures right { IfOk result (λ notes. IsRight notes.items) }
-    ensures run { IfOk result (λ notes. IsRunOf script notes.items) }
+    ensures right { IfOk result (λ notes. IsRight 1 1 notes.items) }
+    ensures run { IfOk result (λ notes. IsRunOf 1 1 script notes.items) }
+{
+    Ok(take_all(alloc, script)?.into_notes())
+}
+
+/// Takes one line after another. At the end there is nothing to remove.
+fn take_all(alloc: Global, script: Script) -> Result<Session, AllocError>
+    requires { IsTrue (list_all is_run script) }
+    ensures { IfOk result (λ session. AreBlocks (first_run (opening 1 1)) script session) }
 {
     let mut session = Session::new(alloc);
     for line in script.into_lines() {
         session.take(line)?;
     }
-    Ok(session.into_notes())
+    Ok(session)
 }
 
 impl Session {
@@ -53,92 +67,113 @@ impl Session {
         ensures { result ≡ [] }
     {
         Session {
+            alloc,
             store: Store::new(alloc),
+            next: 1,
             asked: 0,
-            notes: Vec::new(alloc),
+            history: History::new(alloc, 1, 1),
         }
     }
 
     fn into_notes(self) -> Vec<Note>
         ensures notes { result.items ≡ self }
-        ensures right { IsRight self }
+        ensures right { IsRight 1 1 self }
+        ensures clean { IsClean self }
     {
-        self.notes
+        self.history.into_notes()
     }
 
-    /// Runs a line. An error is want of memory outside a step, and leaves the history as it was.
+    /// Runs a line. An error is want of memory, or of numbers for questions, outside a step, and leaves
+    /// the history as it was.
     fn take(&mut self, line: Line) -> Result<(), AllocError>
         requires { IsTrue (is_run line) }
         ensures ok { OnOk result (Adds self.old self.new line.by line.cmd) }
         ensures err { OnErr result (self.new ≡ self.old) }
     {
         let Line { by, cmd, .. } = line;
-        match cmd {
-            Cmd::Commit { form, ops } => self.commit(by, form, ops),
-            Cmd::Ask { question, .. } => self.ask(by, question),
+        match (by, cmd) {
+            (Some(by), Cmd::Commit { form, ops }) => self.commit(by, form, ops),
+            (Some(by), Cmd::Ask { question, .. }) => self.ask(by, question),
+            _ => unreachable!(),
         }
     }
 
     fn commit(&mut self, by: By, form: CommitForm, ops: Ops) -> Result<(), AllocError>
-        requires { IsTrue (is_by_client by) }
-        ensures ok { OnOk result (Adds self.old self.new by (cmd.Commit form ops)) }
+        requires { IsTrue (is_client by) }
+        ensures ok { OnOk result (Adds self.old self.new (Some by) (cmd.Commit form ops)) }
         ensures err { OnErr result (self.new ≡ self.old) }
     {
-        self.notes.try_reserve(1)?;
-        let note = committed(&mut self.store, by, form, ops);
-        self.notes.push_reserved(note);
+        self.history.reserve(1)?;
+        let reply = committed(&mut self.store, &mut self.next, &ops);
+        let act = Act::Commit { form, ops };
+        self.history.push(plain_note(self.alloc, by, act, reply));
         Ok(())
     }
 
     fn ask(&mut self, by: By, question: Question) -> Result<(), AllocError>
-        requires { IsTrue (is_by_client by) }
-        ensures ok { OnOk result (Adds self.old self.new by (cmd.Ask question false)) }
+        requires client { IsTrue (is_client by) }
+        requires get { IsTrue (is_get question) }
+        ensures ok { OnOk result (Adds self.old self.new (Some by) (cmd.Ask question false)) }
         ensures err { OnErr result (self.new ≡ self.old) }
     {
-        self.notes.try_reserve(2)?;
-        let ask = self.asked + 1;
-        match asked(&self.store, ask, by, question) {
+        self.history.reserve(2)?;
+        let Some(ask) = self.asked.checked_add(1) else {
+            return Err(AllocError);
+        };
+        match asked(self.alloc, &self.store, ask, by, question) {
             Ok((first, second)) => {
-                self.notes.push_reserved(first);
-                self.notes.push_reserved(second);
+                self.history.push(first);
+                self.history.push(second);
                 self.asked = ask;
             }
-            Err(refused) => self.notes.push_reserved(refused),
+            Err(refused) => self.history.push(refused),
         }
         Ok(())
     }
 }
 
-/// The note of a commit, which took effect unless memory was wanting.
-fn committed(store: &mut Store, by: By, form: CommitForm, ops: Ops) -> Note
-    ensures by { result.by ≡ by }
-    ensures act { result.act ≡ act.Commit form ops }
-    ensures reply { IsCommitted store.old store.new ops result.reply }
+/// Commits the operations where there are numbers for them and memory.
+fn committed(store: &mut Store, next: &mut u64, ops: &Ops) -> Reply
+    requires { next.old ≤ 2 ^ 56 }
+    ensures reply { IsCommitted store.old store.new next.old next.new ops.now result }
+    ensures upto { next.new ≤ 2 ^ 56 }
 {
-    let reply = match store.commit(&ops) {
-        Ok(()) => Reply::Done,
+    let count = ops.list().len() as u64;
+    if END - *next < count {
+        return Reply::Spent;
+    }
+    match store.commit(ops) {
+        Ok(()) => {
+            *next += count;
+            Reply::Done
+        }
         Err(AllocError) => Reply::Memory,
-    };
-    let act = Act::Commit { form, ops };
-    Note { by, act, reply }
+    }
 }
 
 /// The two notes of a read, or the note of one that memory was wanting for.
-fn asked(store: &Store, ask: u64, by: By, question: Question) -> Result<(Note, Note), Note>
-    ensures read { IfOk result (λ notes. notes ≡ (opened ask by question, answered ask by question (answer_of store.now question))) }
+fn asked(
+    alloc: Global,
+    store: &Store,
+    ask: u64,
+    by: By,
+    question: Question,
+) -> Result<(Note, Note), Note>
+    requires { IsTrue (is_get question) }
+    ensures read { IfOk result (λ notes. notes ≡ (opened ask by question, answered ask by question (got store.now question))) }
     ensures refused { IfErr result (λ note. note ≡ lacked by question) }
 {
     match (question.copy(), answer(store, &question)) {
         (Ok(again), Ok(answer)) => {
-            let first = read_note(ask, by, again, Reply::Asked(ask));
-            let second = read_note(ask, by, question, Reply::Answered(answer));
+            let first = read_note(alloc, ask, by, again, Reply::Asked(ask));
+            let second = read_note(alloc, ask, by, question, Reply::Answered(answer));
             Ok((first, second))
         }
-        _ => Err(read_note(0, by, question, Reply::Memory)),
+        _ => Err(read_note(alloc, 0, by, question, Reply::Memory)),
     }
 }
 
-fn read_note(ask: u64, by: By, question: Question, reply: Reply) -> Note
+fn read_note(alloc: Global, ask: u64, by: By, question: Question, reply: Reply) -> Note
     ensures { result ≡ read_note ask by question reply }
 {
     let act = Act::Ask {
@@ -146,13 +181,30 @@ fn read_note(ask: u64, by: By, question: Question, reply: Reply) -> Note
         question,
         parted: false,
     };
-    Note { by, act, reply }
+    plain_note(alloc, by, act, reply)
+}
+
+/// A note of a step that changes no tables, holds no version and tries no number.
+fn plain_note(alloc: Global, by: By, act: Act, reply: Reply) -> Note
+    ensures { result ≡ plain_note by act reply }
+{
+    Note {
+        by,
+        act,
+        reply,
+        edit: None,
+        holds: Items::new(Vec::new(alloc)),
+        tried: Items::new(Vec::new(alloc)),
+    }
 }
 
 fn answer(store: &Store, question: &Question) -> Result<Answer, AllocError>
-    ensures { IfOk result (λ answer. answer ≡ answer_of store.now question.now) }
+    requires { IsTrue (is_get question.now) }
+    ensures { IfOk result (λ answer. answer ≡ got store.now question.now) }
 {
-    let Question::Get { key } = question;
+    let Question::Get { key, .. } = question else {
+        unreachable!()
+    };
     match store.get(key) {
         Some(value) => Ok(Answer::Value(value.copy()?)),
         None => Ok(Answer::Absent),

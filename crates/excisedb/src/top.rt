@@ -6,7 +6,7 @@ ghost use Rattle.excisedb.specs.Outcome.{Replies, IsSent};
 
 use crate::reader::{self, MAX_SCRIPT};
 use crate::status::Status;
-use crate::{session, text, words};
+use crate::{session, words};
 use std::alloc::{AllocError, Global};
 use xdb_device::{DevNo, Sink, Source, read_up_to, write_all};
 
@@ -55,7 +55,7 @@ fn reply_to(alloc: Global, bytes: &[u8]) -> Result<(Status, Vec<u8>), AllocError
         None => Ok((Status::Script, FORM.to_vec(alloc)?)),
         Some(script) => {
             let notes = session::run(alloc, script)?;
-            Ok((Status::Done, text::text(alloc, &notes)?))
+            Ok((Status::Done, xdb_text::text(alloc, &notes)?))
         }
     }
 }

@@ -2,16 +2,23 @@
 ghost use Rattle.std.specs.Prelude.{◌≡◌, ◌↔◌, IsTrue, map, string_bytes, codes};
 ghost use Rattle.excisedb.specs.Ends.{run_words};
 
+use std::alloc::AllocError;
 use std::env;
+use std::io::ErrorKind;
 use std::rt::Env;
 
-/// The words that the program was called with, where they are text.
-pub fn given(rt: &(impl Env + AllocGlobal)) -> Option<Vec<String>> {
+/// The words that the program was called with, or none where they aren't text. An error is want of memory.
+pub fn given(rt: &(impl Env + AllocGlobal)) -> Result<Option<Vec<String>>, AllocError> {
+    let given = match env::args(rt) {
+        Ok(given) => given,
+        Err(error) if error.kind() == ErrorKind::OutOfMemory => return Err(AllocError),
+        Err(_) => return Ok(None),
+    };
     let mut words = Vec::new(rt.alloc());
-    for word in env::args(rt).ok()?.skip(1) {
-        words.push(word).ok()?;
+    for word in given.skip(1) {
+        words.push(word)?;
     }
-    Some(words)
+    Ok(Some(words))
 }
 
 /// Whether the words are the one command.

@@ -1,4 +1,4 @@
-use Rattle.excisedb.proofs.ReaderLaws.{one-word-no-command, other-verb-no-command, behind-verb}
+use Rattle.excisedb.proofs.ReaderLaws.{one-word-no-command}
 use Rattle.excisedb.proofs.reader.read_command.Goals as goal
 
 pub returns-in_default : goal.returns-in_default

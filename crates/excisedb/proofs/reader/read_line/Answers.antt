@@ -1,4 +1,4 @@
-use Rattle.excisedb.proofs.ReaderLaws.{one-word-no-line, no-client-no-line, no-command-no-line, a-line}
+use Rattle.excisedb.proofs.ReaderLaws.{one-word-no-line}
 use Rattle.excisedb.proofs.reader.read_line.Goals as goal
 
 pub returns-in_default : goal.returns-in_default

@@ -1,26 +1,41 @@
-use Rattle.std.proofs.Common.{◌≡◌, ◌+◌, ◌∷◌, [], ◌++◌, List, sym, ap, subst, refl, ◌∙◌}
-use Rattle.xdb_plain.specs.Answers.{answer_of}
+use Rattle.std.proofs.Common.{sym, subst}
+use Rattle.xdb_history.specs.Recorded.{state_of}
 use Rattle.xdb_plain.specs.declared.note.Note.{Note}
-use Rattle.excisedb.specs.Kept.{IsKept, opened, answered, lacked}
-use Rattle.excisedb.proofs.SessionLaws.{kept-read, kept-lacked}
+use Rattle.xdb_plain.specs.Steps.{MayStand}
+use Rattle.excisedb.proofs.SessionLaws.{Committed, Reads, reads, lacks, kept-roomy, one-more, two-more, state-pushed}
 use Rattle.excisedb.proofs.session.Session.ask.Goals as goal
+
+pub push-requires-clause-stands : goal.push-requires-clause-stands
+push-requires-clause-stands c =
+    let self = c.self.inside in
+    let room = c.in_ok-reserve.ensures in
+    let kept = kept-roomy self.store self.next self.asked self.history c.reserve.new.self c.self.invariant room.seq room.file room.notes in
+    let read = reads self.store self.next self.asked c.in-Some.ask (state_of c.reserve.new.self) c.args.by c.args.question kept.rest c.requires.client c.requires.get c.in-Some.ensures.1 in
+    let is = subst (λ (x : Note × Note). Reads self.store self.next c.in-Some.ask (state_of c.reserve.new.self) x.0 x.1) (sym c.in-Ok.ensures.read) read in
+    is.stands
+
+pub push-requires-in-Ok-clause-stands : goal.push-requires-in-Ok-clause-stands
+push-requires-in-Ok-clause-stands c =
+    let self = c.self.inside in
+    let room = c.in_ok-reserve.ensures in
+    let kept = kept-roomy self.store self.next self.asked self.history c.reserve.new.self c.self.invariant room.seq room.file room.notes in
+    let read = reads self.store self.next self.asked c.in-Some.ask (state_of c.reserve.new.self) c.args.by c.args.question kept.rest c.requires.client c.requires.get c.in-Some.ensures.1 in
+    let is = subst (λ (x : Note × Note). Reads self.store self.next c.in-Some.ask (state_of c.reserve.new.self) x.0 x.1) (sym c.in-Ok.ensures.read) read in
+    subst (λ p. MayStand p c.in-Ok.second) (sym (state-pushed c.reserve.new.self c.push.new.self c.in-Ok.first c.push.ensures.seq c.push.ensures.file c.push.ensures.notes)) is.stands_behind
 
 pub invariant_of-self-in-Ok : goal.invariant_of-self-in-Ok
 invariant_of-self-in-Ok c =
     let self = c.self.inside in
-    let ask = self.asked + 1 in
-    let notes : List Note = self.notes.items in
-    let first = ap (λ (p : Note × Note). p.0) c.in-Ok.ensures.read in
-    let second = ap (λ (p : Note × Note). p.1) c.in-Ok.ensures.read in
-    let items : c.push_reserved-in-Ok.new.self.items ≡ (notes ++ opened ask c.args.by c.args.question ∷ []) ++ answered ask c.args.by c.args.question (answer_of self.store c.args.question) ∷ [] =
-    c.push_reserved-in-Ok.ensures.items ∙ ap (λ xs. xs ++ c.in-Ok.second ∷ []) (c.push_reserved.ensures.items ∙ ap (λ xs. xs ++ c.in-Ok.first ∷ []) c.in_ok-try_reserve.ensures.items) ∙ (λ i. (notes ++ first i ∷ []) ++ second i ∷ []) in
-    subst (λ ns. IsKept self.store ask ns) (sym items) (kept-read self.store self.asked ask notes c.args.by c.args.question c.self.invariant c.requires refl)
+    let room = c.in_ok-reserve.ensures in
+    let kept = kept-roomy self.store self.next self.asked self.history c.reserve.new.self c.self.invariant room.seq room.file room.notes in
+    let read = reads self.store self.next self.asked c.in-Some.ask (state_of c.reserve.new.self) c.args.by c.args.question kept.rest c.requires.client c.requires.get c.in-Some.ensures.1 in
+    let is = subst (λ (x : Note × Note). Reads self.store self.next c.in-Some.ask (state_of c.reserve.new.self) x.0 x.1) (sym c.in-Ok.ensures.read) read in
+    two-more self.store self.next self.asked c.in-Some.ask c.reserve.new.self c.push.new.self c.push-in-Ok.new.self c.in-Ok.first c.in-Ok.second kept is c.push.ensures.seq c.push.ensures.file c.push.ensures.notes c.push-in-Ok.ensures.seq c.push-in-Ok.ensures.file c.push-in-Ok.ensures.notes
 
 pub invariant_of-self-in-Err : goal.invariant_of-self-in-Err
 invariant_of-self-in-Err c =
     let self = c.self.inside in
-    let notes : List Note = self.notes.items in
-    let refused = c.in-Err.ensures.refused in
-    let items : c.push_reserved-in-Err.new.self.items ≡ notes ++ lacked c.args.by c.args.question ∷ [] =
-    c.push_reserved-in-Err.ensures.items ∙ ap (λ xs. xs ++ c.in-Err.refused ∷ []) c.in_ok-try_reserve.ensures.items ∙ (λ i. notes ++ refused i ∷ []) in
-    subst (λ ns. IsKept self.store self.asked ns) (sym items) (kept-lacked self.store self.asked notes c.args.by c.args.question c.self.invariant c.requires)
+    let room = c.in_ok-reserve.ensures in
+    let kept = kept-roomy self.store self.next self.asked self.history c.reserve.new.self c.self.invariant room.seq room.file room.notes in
+    let is = lacks self.store self.next self.asked (state_of c.reserve.new.self) c.args.by c.args.question kept.rest c.requires.client c.requires.get in
+    one-more self.store self.store self.next self.next self.asked self.history c.reserve.new.self c.push-in-Err.new.self c.in-Err.refused c.self.invariant room.seq room.file room.notes (subst (Committed self.store self.store self.next self.next self.asked (state_of c.reserve.new.self)) (sym c.in-Err.ensures.refused) is) c.push-in-Err.ensures.seq c.push-in-Err.ensures.file c.push-in-Err.ensures.notes c.self.invariant.upto
