@@ -1,0 +1,12 @@
+pub mod Numbers
+pub mod Ranges
+pub mod RowLaws
+pub mod Loop
+pub mod EntryLaws
+pub mod BlockRows
+pub mod OffsetLaws
+pub mod BlockLaws
+pub mod SeekLaws
+pub mod DraftLaws
+pub mod FoundLaws
+pub mod SpanPairs

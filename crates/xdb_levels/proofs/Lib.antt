@@ -1,0 +1,6 @@
+pub mod NameLaws
+pub mod MeetingLaws
+pub mod StableLaws
+pub mod LevelLaws
+pub mod WalkLaws
+pub mod EditLaws

@@ -1,0 +1,6 @@
+-- What the loop of `copied` keeps.
+use Rattle.std.proofs.Common.{◌≡◌, take}
+use Rattle.xdb_mem.proofs.mem.copied.Given as goal
+
+abbrev pub invariant-loop-entry : goal.invariant-loop-entry
+invariant-loop-entry l = l.out.items ≡ take l.entry-index l.entries

@@ -1,0 +1,17 @@
+//! Groups of memtables: what was committed and isn't in a table yet.
+#![tactic(auto)]
+
+pub mod laws;
+mod mem;
+mod numbering;
+mod parts;
+mod queue;
+mod sorted;
+
+pub use mem::Mem;
+pub use parts::MemParts;
+pub use queue::MemQueue;
+pub use std::alloc::AllocError as Memory;
+
+#[cfg(test)]
+mod tests;

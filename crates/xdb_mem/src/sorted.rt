@@ -1,0 +1,89 @@
+//! Lists of entries in internal order: by user key, and at one user key the greatest number first, as
+//! in LevelDB's and Pebble's memtables.
+ghost use Rattle.std.specs.Prelude.{◌≡◌, ◌≤◌, ◌<◌, ◌+◌, ◌&&◌, true, false, [], ◌∷◌, ◌++◌, length, vec_len, vec_capacity, slice_index_or, IsTrue, IsOk, OnOk, OnErr};
+ghost use Rattle.std.specs.List.{filter};
+ghost use Rattle.std.specs.List.Sorted.{IsPartitionPoint};
+ghost use Rattle.xdb_key.specs.Bounds.{holds};
+ghost use Rattle.xdb_key.specs.Kinds.{trailer};
+ghost use Rattle.xdb_key.specs.Order.{is_below};
+ghost use Rattle.xdb_rangedel.specs.Members.{SameMembers};
+ghost use Rattle.xdb_mem.specs.InOrder.{comes_before, AreInOrder, AreNumbered};
+
+use std::alloc::AllocError;
+use xdb_key::{Bound, Entry, KeyRange, compare, is_below};
+
+/// Whether the first stands before the second in internal order.
+fn comes_before(a: &Entry, b: &Entry) -> bool
+    ensures { result ≡ comes_before a.now b.now }
+{
+    let by_key = compare(a.key().bytes(), b.key().bytes());
+    by_key.then(trailer(b).cmp(&trailer(a))).is_lt()
+}
+
+/// The number and the kind behind it.
+fn trailer(entry: &Entry) -> u64
+    ensures { result ≡ trailer entry.now.seq entry.now.kind }
+{
+    entry.seq() * 256 + u64::from(entry.kind().code())
+}
+
+/// Adds the entry at its place, by one binary search. An entry of the same key, number and kind as
+/// one that is there is let go.
+pub fn put(entries: &mut Vec<Entry>, entry: Entry) -> Result<(), AllocError>
+    requires { AreInOrder entries.old.items }
+    ensures order { AreInOrder entries.new.items }
+    ensures members { OnOk result (AreNumbered (entries.old.items ++ entry ∷ []) → SameMembers entries.new.items (entries.old.items ++ entry ∷ [])) }
+    ensures unchanged { OnErr result (entries.new.items ≡ entries.old.items) }
+    // It fails only where there is no room.
+    ensures room { vec_len entries.old < vec_capacity entries.old → IsOk result }
+    ensures longer { vec_len entries.new ≤ vec_len entries.old + 1 }
+    ensures capacity { vec_capacity entries.old ≤ vec_capacity entries.new }
+{
+    let at = place(entries, &entry);
+    if stands_at(entries, at, &entry) {
+        return Ok(());
+    }
+    entries.insert(at, entry)?;
+    Ok(())
+}
+
+/// How many entries stand before this one.
+fn place(entries: &[Entry], entry: &Entry) -> usize
+    requires { AreInOrder entries.now }
+    ensures bound { result ≤ length entries.now }
+    ensures split { IsPartitionPoint (λ p. comes_before p entry.now ≡ true) (λ p. comes_before p entry.now ≡ false) entries.now result }
+{
+    entries.partition_point(|other| comes_before(other, entry))
+}
+
+/// Whether the entry at the place doesn't stand behind this one.
+fn stands_at(entries: &[Entry], at: usize, entry: &Entry) -> bool
+    ensures yes { IsTrue result → (at < length entries.now) × (comes_before entry.now (slice_index_or entries.now at entry.now) ≡ false) }
+    ensures no { result ≡ false → at < length entries.now → comes_before entry.now (slice_index_or entries.now at entry.now) ≡ true }
+{
+    if at < entries.len() {
+        let other = &entries[at];
+        return !comes_before(entry, other);
+    }
+    false
+}
+
+/// The entries whose keys lie in the range, by two binary searches.
+pub fn in_range<'a>(entries: &'a [Entry], range: &KeyRange) -> &'a [Entry]
+    requires { AreInOrder entries.now }
+    ensures { result.now ≡ filter (λ p. holds range.now p.key) entries.now }
+{
+    let first = first_from(entries, range.lo());
+    let rest = &entries[first..];
+    let end = first_from(rest, range.hi());
+    &rest[..end]
+}
+
+/// The place of the first entry whose key isn't below the bound.
+fn first_from(entries: &[Entry], at: &Bound) -> usize
+    requires { AreInOrder entries.now }
+    ensures bound { result ≤ length entries.now }
+    ensures split { IsPartitionPoint (λ p. is_below p.key at.now ≡ true) (λ p. is_below p.key at.now ≡ false) entries.now result }
+{
+    entries.partition_point(|entry| is_below(entry.key().bytes(), at.bytes()))
+}
