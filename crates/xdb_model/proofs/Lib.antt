@@ -1,0 +1,3 @@
+pub mod CauseLaws
+pub mod GroupLaws
+pub mod JobLaws

@@ -1,0 +1,29 @@
+-- What the groups and the jobs of a state keep.
+use Rattle.std.specs.Prelude.{◌≡◌, ℕ, ◌+◌, ◌<◌, ◌≤◌, false, List, [], ◌∷◌, map}
+use Rattle.std.specs.List.{AllByRecursion}
+use Rattle.xdb_key.specs.Groups.{Group}
+use Rattle.xdb_plain.specs.Edits.{is_empty}
+use Rattle.xdb_plain.specs.State.{Plain, groups}
+
+-- the groups' numbers go up by one, from this one on
+abbrev pub AreCounted : ℕ → List Group → Type 0
+AreCounted num [] = Unit {0}
+AreCounted num (g ∷ gs) = (g.num ≡ num) × AreCounted (num + 1) gs
+
+abbrev pub HoldsOperations : Group → Type 0
+HoldsOperations g = is_empty g.ops ≡ false
+
+pub record GroupsFit (p : Plain) : Type 0 where
+  pub first : ℕ
+  pub from : 1 ≤ first
+  pub counted : AreCounted first (groups p)
+  pub filled : AllByRecursion HoldsOperations p.sealed
+
+-- the numbers rise strictly, from above one up to another
+abbrev pub RiseTo : ℕ → ℕ → List ℕ → Type 0
+RiseTo last most [] = last ≤ most
+RiseTo last most (n ∷ ns) = (last < n) × RiseTo n most ns
+
+-- the numbers of the running jobs rise, and none is above that of the last one that was started
+abbrev pub JobsFit : Plain → Type 0
+JobsFit p = RiseTo 0 p.started (map (λ j. j.num) p.jobs)

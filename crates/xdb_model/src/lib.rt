@@ -1,0 +1,5 @@
+//! Laws of the plain model, each a function that does nothing.
+#![tactic(auto)]
+
+pub mod causes;
+pub mod numbers;
