@@ -41,7 +41,7 @@ has_edit p note may said = edits p note reply.Installed may said
 same-number : (a b : ℕ) → (eqb a b || false) ≡ true → a ≡ b
 same-number a b e = elim (or_cases (eqb a b) false e) [ inl h ↦ eqb-true a b h | inr h ↦ absurd (false≢true h) ]
 
-same-name : (a b : List ℕ) → (same_name a b || false) ≡ true → a ≡ b
+pub same-name : (a b : List ℕ) → (same_name a b || false) ≡ true → a ≡ b
 same-name a b e = elim (or_cases (same_name a b) false e) [ inl h ↦ same_key-tells a b h | inr h ↦ absurd (false≢true h) ]
 
 took_least : (ns : List ℕ) (num : ℕ) → list_any (same_reply (reply.Took num)) (reap_replies ns) ≡ true → (others : List ℕ) × (ns ≡ num ∷ others)

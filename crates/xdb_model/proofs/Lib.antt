@@ -1,3 +1,5 @@
 pub mod CauseLaws
 pub mod GroupLaws
 pub mod JobLaws
+pub mod RefusalLaws
+pub mod ExcisedLaws

@@ -3,3 +3,4 @@
 
 pub mod causes;
 pub mod numbers;
+pub mod refusals;
