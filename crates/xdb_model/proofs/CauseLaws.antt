@@ -1,18 +1,19 @@
 -- From a reply that may stand to the state.
-use Rattle.std.proofs.Common.{◌≡◌, ℕ, Bool, true, false, cond, eqb, ◌||◌, List, [], ◌∷◌, ◌++◌, length, Option, Some, None, refl, sym, ap, subst, ◌∙◌, IsTrue, inl, inr}
+use Rattle.std.proofs.Common.{◌≡◌, ℕ, Bool, true, false, cond, eqb, leb, not, ◌&&◌, ◌||◌, is_some, is_none, List, [], ◌∷◌, ◌++◌, length, Option, Some, None, refl, sym, ap, subst, ◌∙◌, IsTrue, inl, inr}
 use Rattle.std.proofs.lemmas.Bool.{false≢true, eqb-true, or_cases}
 use Rattle.xdb_rangedel.proofs.NewestLaws.{same_key-tells}
 use Rattle.std.specs.List.{list_any}
 use Rattle.xdb_key.specs.Bounds.{Bounds}
-use Rattle.xdb_key.specs.Groups.{Group, first_touching}
+use Rattle.xdb_key.specs.Groups.{Group, first_touching, last_touching}
 use Rattle.xdb_key.specs.declared.op.Op.{Op}
 use Rattle.xdb_edit.specs.Changes.{Changes}
 use Rattle.xdb_plain.specs.Counts.{dead}
-use Rattle.xdb_plain.specs.Fences.{fence_of, fence_touched}
-use Rattle.xdb_plain.specs.Replies.{may_reply, same_reply, install_replies, install_work_replies, or_reply, put_replies, reap_replies, commit_replies, lacks_numbers, lacks_files, most_halves}
-use Rattle.xdb_plain.specs.Edits.{crossed}
+use Rattle.xdb_plain.specs.Fences.{fence, fence_of, fence_touched, fence_met, first_overlap}
+use Rattle.xdb_plain.specs.Replies.{may_reply, same_reply, install_replies, install_work_replies, or_reply, put_replies, reap_replies, commit_replies, state_reply, load_open_replies, overlap_reply, is_being_opened, lacks_numbers, lacks_files, most_halves}
+use Rattle.xdb_plain.specs.Edits.{crossed, is_empty}
+use Rattle.xdb_plain.specs.Snapshots.{state_by, are_rising}
 use Rattle.xdb_plain.specs.Tables.{TableOps}
-use Rattle.xdb_plain.specs.State.{Plain, Load, Phase, being_opened, waiting, is_in, Job, JobKind, flush_of, compaction_of, Compaction, groups, found_load, found_job, same_name}
+use Rattle.xdb_plain.specs.State.{Plain, Load, Phase, being_opened, waiting, is_in, Job, JobKind, flush_of, compaction_of, Compaction, groups, found_load, found_job, found_snap, open_loads, same_name}
 use Rattle.xdb_plain.specs.Steps.{MayStand, FitsEdit, HasEdit}
 use Rattle.xdb_plain.specs.declared.act.Act.{Act}
 use Rattle.xdb_plain.specs.declared.act.Act.TheVariants as act
@@ -114,3 +115,65 @@ wait_at p (Some l) g e = wait_in p l.name l.by l.tables l.span l.first l.phase g
 
 pub waits : (p : Plain) (note : Note) (load : List ℕ) (g : ℕ) → MayStand p note → note.act ≡ act.Install load → note.reply ≡ reply.Waits g → WaitsFor (found_load load p.loads) (groups p) g
 waits p note load g may is said = wait_at p (found_load load p.loads) g (replies p note (act.Install load) (reply.Waits g) may is said)
+
+-- ---- snapshots
+
+pinned-by : (o : Option ℕ) (g : ℕ) → list_any (same_reply (reply.Pinned g)) (reply.Memory ∷ state_reply (state_by o) ∷ []) ≡ true → o ≡ Some g
+pinned-by None g e = absurd (false≢true e)
+pinned-by (Some n) g e = ap Some (sym (same-number g n e))
+
+file_only-by : (o : Option ℕ) → list_any (same_reply reply.FileOnly) (reply.Memory ∷ state_reply (state_by o) ∷ []) ≡ true → o ≡ None
+file_only-by None e = refl
+file_only-by (Some n) e = absurd (false≢true e)
+
+pinned-in : (used falling many : Bool) (o : Option ℕ) (g : ℕ) → list_any (same_reply (reply.Pinned g)) (cond used (reply.NameInUse ∷ []) (cond falling (reply.BadRanges ∷ []) (cond many (reply.TooMany ∷ []) (reply.Memory ∷ state_reply (state_by o) ∷ [])))) ≡ true → o ≡ Some g
+pinned-in true falling many o g e = absurd (false≢true e)
+pinned-in false true many o g e = absurd (false≢true e)
+pinned-in false false true o g e = absurd (false≢true e)
+pinned-in false false false o g e = pinned-by o g e
+
+file_only-in : (used falling many : Bool) (o : Option ℕ) → list_any (same_reply reply.FileOnly) (cond used (reply.NameInUse ∷ []) (cond falling (reply.BadRanges ∷ []) (cond many (reply.TooMany ∷ []) (reply.Memory ∷ state_reply (state_by o) ∷ [])))) ≡ true → o ≡ None
+file_only-in true falling many o e = absurd (false≢true e)
+file_only-in false true many o e = absurd (false≢true e)
+file_only-in false false true o e = absurd (false≢true e)
+file_only-in false false false o e = file_only-by o e
+
+pub pinned : (p : Plain) (note : Note) (name : List ℕ) (ranges : List Bounds) (g : ℕ) → MayStand p note → note.act ≡ act.Snap name ranges → note.reply ≡ reply.Pinned g → last_touching ranges p.next (groups p) ≡ Some g
+pinned p note name ranges g may is said =
+    pinned-in (is_some (found_snap name p.snaps)) (not (are_rising ranges)) (leb 64 (length p.snaps)) (last_touching ranges p.next (groups p)) g (replies p note (act.Snap name ranges) (reply.Pinned g) may is said)
+
+pub file_only : (p : Plain) (note : Note) (name : List ℕ) (ranges : List Bounds) → MayStand p note → note.act ≡ act.Snap name ranges → note.reply ≡ reply.FileOnly → last_touching ranges p.next (groups p) ≡ None
+file_only p note name ranges may is said =
+    file_only-in (is_some (found_snap name p.snaps)) (not (are_rising ranges)) (leb 64 (length p.snaps)) (last_touching ranges p.next (groups p)) (replies p note (act.Snap name ranges) reply.FileOnly may is said)
+
+-- ---- fences of loads
+
+opening-end : (none lacking : Bool) (other : List ℕ) → list_any (same_reply (reply.Fenced other)) (cond none (reply.Opened ∷ []) (cond lacking (reply.Spent ∷ []) (reply.Opening ∷ []))) ≡ true → ⊥
+opening-end true lacking other e = false≢true e
+opening-end false true other e = false≢true e
+opening-end false false other e = false≢true e
+
+opening-fence : (none lacking : Bool) (met : Option (List ℕ)) (other : List ℕ) → list_any (same_reply (reply.Fenced other)) (or_reply reply.Fenced met (cond none (reply.Opened ∷ []) (cond lacking (reply.Spent ∷ []) (reply.Opening ∷ [])))) ≡ true → met ≡ Some other
+opening-fence none lacking None other e = absurd (opening-end none lacking other e)
+opening-fence none lacking (Some name) other e = ap Some (sym (same-name other name e))
+
+opening-overlap : (none lacking : Bool) (pair : Option (List ℕ × List ℕ)) (met : Option (List ℕ)) (other : List ℕ) → list_any (same_reply (reply.Fenced other)) (or_reply overlap_reply pair (or_reply reply.Fenced met (cond none (reply.Opened ∷ []) (cond lacking (reply.Spent ∷ []) (reply.Opening ∷ []))))) ≡ true → met ≡ Some other
+opening-overlap none lacking None met other e = opening-fence none lacking met other e
+opening-overlap none lacking (Some pair) met other e = absurd (false≢true e)
+
+opening-new : (nothing many none lacking : Bool) (pair : Option (List ℕ × List ℕ)) (met : Option (List ℕ)) (other : List ℕ) → list_any (same_reply (reply.Fenced other)) (cond nothing (reply.Nothing ∷ []) (cond many (reply.TooMany ∷ []) (reply.Memory ∷ or_reply overlap_reply pair (or_reply reply.Fenced met (cond none (reply.Opened ∷ []) (cond lacking (reply.Spent ∷ []) (reply.Opening ∷ []))))))) ≡ true → met ≡ Some other
+opening-new true many none lacking pair met other e = absurd (false≢true e)
+opening-new false true none lacking pair met other e = absurd (false≢true e)
+opening-new false false none lacking pair met other e = opening-overlap none lacking pair met other e
+
+opening-old : (t : Bool) (other : List ℕ) → list_any (same_reply (reply.Fenced other)) (reply.NameInUse ∷ cond t (reply.Opened ∷ reply.Fault ∷ reply.Memory ∷ []) []) ≡ true → ⊥
+opening-old true other e = false≢true e
+opening-old false other e = false≢true e
+
+opening-at : (p : Plain) (tables : List TableOps) (span : Option Bounds) (o : Option Load) (other : List ℕ) → list_any (same_reply (reply.Fenced other)) (load_open_replies p tables span o) ≡ true → fence_met (fence tables span) p.loads ≡ Some other
+opening-at p tables span None other e =
+    opening-new (is_empty tables && is_none span) (leb 16 (length (open_loads p.loads))) (is_empty tables) (lacks_numbers p 1 || lacks_files p (length tables)) (first_overlap tables) (fence_met (fence tables span) p.loads) other e
+opening-at p tables span (Some l) other e = absurd (opening-old (is_being_opened l) other e)
+
+pub opening_fenced : (p : Plain) (note : Note) (load : List ℕ) (tables : List TableOps) (span : Option Bounds) (other : List ℕ) → MayStand p note → note.act ≡ act.LoadOpen load tables span → note.reply ≡ reply.Fenced other → fence_met (fence tables span) p.loads ≡ Some other
+opening_fenced p note load tables span other may is said = opening-at p tables span (found_load load p.loads) other (replies p note (act.LoadOpen load tables span) (reply.Fenced other) may is said)

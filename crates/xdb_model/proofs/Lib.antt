@@ -1,4 +1,5 @@
 pub mod CauseLaws
+pub mod CountLaws
 pub mod GroupLaws
 pub mod JobLaws
 pub mod RefusalLaws

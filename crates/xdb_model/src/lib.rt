@@ -2,5 +2,6 @@
 #![tactic(auto)]
 
 pub mod causes;
+pub mod counts;
 pub mod numbers;
 pub mod refusals;
