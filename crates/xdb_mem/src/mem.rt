@@ -49,9 +49,10 @@ impl Mem {
         }
     }
 
-    /// Adds the batch's operations, numbered from `first` on. Of a set and a delete the key and the
-    /// value are copied once; what is there already is only moved within its list. An error means
-    /// that memory ran out, and leaves the memtable as it was.
+    /// Adds the batch's operations, numbered from `first` on. Each key and value is copied once. An
+    /// entry's place is found by one binary search; the entries behind it move by one place, and
+    /// their keys and values stay where they are. An error means that memory ran out, and leaves the
+    /// memtable as it was.
     pub fn insert(&mut self, first: u64, batch: &Batch) -> Result<(), AllocError>
         requires from { 1 ≤ first }
         requires upto { first + length batch.now ≤ 2 ^ 56 }

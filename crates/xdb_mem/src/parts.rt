@@ -36,7 +36,7 @@ impl Model for MemParts {
 }
 
 impl MemParts {
-    /// No content. It takes memory for nothing that stays.
+    /// No content. An error means that memory ran out.
     pub fn empty(alloc: Global) -> Result<Self, AllocError>
         ensures entries { IfOk result (λ parts. parts.entries ≡ []) }
         ensures spans { IfOk result (λ parts. parts.spans ≡ []) }

@@ -214,7 +214,8 @@ fn touches(mem: &Mem, ranges: &[KeyRange]) -> bool
     mem.touches_one_of(ranges, u64::MAX)
 }
 
-/// The first of the groups, numbered from `num` on, that touches the ranges.
+/// The number of the first of the groups, numbered from `oldest` on, with an operation that speaks of
+/// a key in one of the ranges.
 fn first_in(oldest: u64, groups: &[Mem], ranges: &[KeyRange]) -> Option<u64>
     requires { oldest + length groups.now ≤ 2 ^ 56 }
     ensures { result ≡ first_touching ranges.now (groups_from oldest groups.now) }
@@ -229,7 +230,8 @@ fn first_in(oldest: u64, groups: &[Mem], ranges: &[KeyRange]) -> Option<u64>
     None
 }
 
-/// The last of the groups, numbered from `num` on, that touches the ranges below the mark.
+/// The number of the last of the groups, numbered from `oldest` on, with such an operation, numbered
+/// below the mark.
 fn last_in(oldest: u64, groups: &[Mem], ranges: &[KeyRange], below: u64) -> Option<u64>
     requires { oldest + length groups.now ≤ 2 ^ 56 }
     ensures { result ≡ last_touching ranges.now below (groups_from oldest groups.now) }

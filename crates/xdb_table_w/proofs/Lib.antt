@@ -1,0 +1,9 @@
+pub mod FollowLaws
+pub mod CutLaws
+pub mod SpreadLaws
+pub mod ExtentLaws
+pub mod KeyRows
+pub mod FileLaws
+pub mod HalfLaws
+pub mod ReadyLaws
+pub mod FragmentRows
