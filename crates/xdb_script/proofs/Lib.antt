@@ -1,0 +1,9 @@
+pub mod Words
+pub mod Parts
+pub mod Questions
+pub mod Commands
+pub mod Spelled
+pub mod Lines
+pub mod Scripts
+pub mod Lengths
+pub mod Spaces
