@@ -9,3 +9,5 @@ pub mod refused_edits;
 pub mod refused_holds;
 pub mod refused_replies;
 pub mod snapshots;
+#[cfg(test)]
+mod tests;
