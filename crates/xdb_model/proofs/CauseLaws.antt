@@ -39,7 +39,7 @@ has_edit p note may said = edits p note reply.Installed may said
 
 -- ---- the least dead number
 
-same-number : (a b : ℕ) → (eqb a b || false) ≡ true → a ≡ b
+pub same-number : (a b : ℕ) → (eqb a b || false) ≡ true → a ≡ b
 same-number a b e = elim (or_cases (eqb a b) false e) [ inl h ↦ eqb-true a b h | inr h ↦ absurd (false≢true h) ]
 
 pub same-name : (a b : List ℕ) → (same_name a b || false) ≡ true → a ≡ b

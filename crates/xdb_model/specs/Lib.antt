@@ -1,4 +1,5 @@
 pub mod Causes
 pub mod Counted
 pub mod Numbered
+pub mod Progress
 pub mod Refusals

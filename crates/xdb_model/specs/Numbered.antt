@@ -27,3 +27,7 @@ RiseTo last most (n ∷ ns) = (last < n) × RiseTo n most ns
 -- the numbers of the running jobs rise, and none is above that of the last one that was started
 abbrev pub JobsFit : Plain → Type 0
 JobsFit p = RiseTo 0 p.started (map (λ j. j.num) p.jobs)
+
+-- the open questions' numbers rise, and none is above that of the last one that was asked
+abbrev pub QuestionsFit : Plain → Type 0
+QuestionsFit p = RiseTo 0 p.asked (map (λ q. q.ask) p.questions)
