@@ -1,12 +1,11 @@
 -- From a reply that may stand to the state.
-use Rattle.std.proofs.Common.{◌≡◌, ℕ, Bool, true, false, cond, eqb, leb, not, ◌&&◌, ◌||◌, is_some, is_none, List, [], ◌∷◌, ◌++◌, length, Option, Some, None, refl, sym, ap, subst, ◌∙◌, IsTrue, inl, inr}
+use Rattle.std.proofs.Common.{◌≡◌, ℕ, Bool, true, false, cond, eqb, leb, not, ◌&&◌, ◌||◌, is_some, is_none, List, [], ◌∷◌, ◌++◌, length, Option, Some, None, refl, sym, ap, subst, inl, inr}
 use Rattle.std.proofs.lemmas.Bool.{false≢true, eqb-true, or_cases}
 use Rattle.xdb_rangedel.proofs.NewestLaws.{same_key-tells}
 use Rattle.std.specs.List.{list_any}
 use Rattle.xdb_key.specs.Bounds.{Bounds}
-use Rattle.xdb_key.specs.Groups.{Group, first_touching, last_touching}
+use Rattle.xdb_key.specs.Groups.{first_touching, last_touching}
 use Rattle.xdb_key.specs.declared.op.Op.{Op}
-use Rattle.xdb_edit.specs.Changes.{Changes}
 use Rattle.xdb_plain.specs.Counts.{dead}
 use Rattle.xdb_plain.specs.Fences.{fence, fence_of, fence_touched, fence_met, first_overlap}
 use Rattle.xdb_plain.specs.Replies.{may_reply, same_reply, install_replies, install_work_replies, or_reply, put_replies, reap_replies, commit_replies, state_reply, load_open_replies, overlap_reply, is_being_opened, lacks_numbers, lacks_files, most_halves}

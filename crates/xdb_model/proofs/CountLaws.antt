@@ -3,7 +3,7 @@ use Rattle.std.proofs.Common.{◌≡◌, ℕ, Bool, true, false, cond, not, eqb,
 use Rattle.std.proofs.lemmas.Bool.{eqb-true}
 use Rattle.std.specs.List.{flat_map}
 use Rattle.xdb_rangedel.specs.Members.{Has}
-use Rattle.xdb_plain.specs.Counts.{distinct, referenced, backings, used, count, counts, with_number, with_numbers}
+use Rattle.xdb_plain.specs.Counts.{distinct, backings, used, count, counts, with_number, with_numbers}
 use Rattle.xdb_plain.specs.State.{Plain, Version, Hold}
 use Rattle.xdb_model.specs.Counted.{IsReferenced, IsCounted}
 

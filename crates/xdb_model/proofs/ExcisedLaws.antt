@@ -1,19 +1,19 @@
 -- A snapshot that is excised was pinned when a load was installed whose span meets one of its ranges.
-use Rattle.std.proofs.Common.{◌≡◌, ℕ, ◌+◌, ◌≤◌, Bool, true, false, cond, not, ◌&&◌, ◌||◌, List, [], ◌∷◌, ◌++◌, length, map, filter, Option, Some, None, append_assoc, append-nil, refl, sym, ap, subst, ◌∙◌, IsTrue, inl, inr}
-use Rattle.std.proofs.lemmas.Bool.{false≢true, and_parts, cases_Bool, not-true}
+use Rattle.std.proofs.Common.{◌≡◌, ℕ, Bool, true, false, cond, not, ◌&&◌, List, [], ◌∷◌, ◌++◌, map, Option, Some, None, append_assoc, append-nil, refl, sym, ap, subst, ◌∙◌, inl, inr}
+use Rattle.std.proofs.lemmas.Bool.{false≢true, and_parts}
 use Rattle.std.specs.List.{list_any, AllByRecursion}
 use Rattle.xdb_key.specs.Bounds.{Bounds}
 use Rattle.xdb_key.specs.Groups.{Group, first_touching, last_touching}
 use Rattle.xdb_key.specs.declared.state.SnapState.{SnapState}
 use Rattle.xdb_key.specs.declared.state.SnapState.TheVariants as state
 use Rattle.xdb_rangedel.specs.Members.{Has}
-use Rattle.xdb_plain.specs.Changes.{after, snaps_after, span_of_load, new_snap}
+use Rattle.xdb_plain.specs.Changes.{snaps_after, span_of_load, new_snap}
 use Rattle.xdb_plain.specs.Fences.{any_meet, span_list, fence_of}
 use Rattle.xdb_plain.specs.Legal.{Legal, after_all}
-use Rattle.xdb_plain.specs.Outcomes.{Outcome, succeeds, begins, fails, cancels, stays, outcome, groups_after, is_put_of_flush}
-use Rattle.xdb_plain.specs.Replies.{may_reply, same_reply, install_replies, install_work_replies, or_reply, lacks_files, most_halves}
+use Rattle.xdb_plain.specs.Outcomes.{Outcome, succeeds, fails, stays, outcome, groups_after, is_put_of_flush}
+use Rattle.xdb_plain.specs.Replies.{same_reply, install_replies, install_work_replies, or_reply, lacks_files, most_halves}
 use Rattle.xdb_plain.specs.Edits.{crossed}
-use Rattle.xdb_plain.specs.Snapshots.{is_pinned, state_by, first_state, turns, turned, excised}
+use Rattle.xdb_plain.specs.Snapshots.{is_pinned, state_by, turns, turned, excised}
 use Rattle.xdb_plain.specs.State.{Plain, Snapshot, Load, Phase, being_opened, waiting, is_in, opening, groups, same_name, found_load, without_snap}
 use Rattle.xdb_plain.specs.Steps.{MayStand}
 use Rattle.xdb_plain.specs.Tables.{TableOps}
@@ -25,7 +25,7 @@ use Rattle.xdb_plain.specs.declared.reply.Reply.{Reply}
 use Rattle.xdb_plain.specs.declared.reply.Reply.TheVariants as reply
 use Rattle.xdb_plain.proofs.HistoryLaws.{after_all-push}
 use Rattle.xdb_model.proofs.CauseLaws.{replies, load_of}
-use Rattle.xdb_model.specs.Refusals.{drops, Keeps, WasPinned, WasExcised, IsExplained, Explained}
+use Rattle.xdb_model.specs.Refusals.{drops, Keeps, IsExplained, Explained}
 
 -- ---- an install that succeeds was installed
 

@@ -1,16 +1,16 @@
 -- Groups are numbered one after the other, and sealed ones hold operations.
-use Rattle.std.proofs.Common.{◌≡◌, ℕ, ◌+◌, ◌≤◌, Bool, true, false, cond, ◌&&◌, ◌||◌, List, [], ◌∷◌, ◌++◌, drop, Option, Some, None, is_none, refl, sym, ap, subst, ◌∙◌, arith}
-use Rattle.std.proofs.lemmas.Bool.{false≢true, true≢false, and_parts}
+use Rattle.std.proofs.Common.{◌≡◌, ℕ, ◌+◌, ◌≤◌, Bool, true, false, cond, ◌||◌, List, [], ◌∷◌, ◌++◌, drop, Option, is_none, refl, sym, ap, subst, ◌∙◌, arith}
+use Rattle.std.proofs.lemmas.Bool.{false≢true, and_parts}
 use Rattle.std.specs.List.{list_any, AllByRecursion}
 use Rattle.xdb_key.specs.Groups.{Group, group_touches}
 use Rattle.xdb_key.specs.declared.op.Op.{Op}
 use Rattle.xdb_key.specs.Bounds.{Bounds}
-use Rattle.xdb_plain.specs.Changes.{after, is_sealed, is_flushed, sealed_after, active_after, active_ops_after, seals_for}
+use Rattle.xdb_plain.specs.Changes.{after, is_sealed, is_flushed, active_ops_after, seals_for}
 use Rattle.xdb_plain.specs.Edits.{is_empty}
 use Rattle.xdb_plain.specs.Fences.{fence}
 use Rattle.xdb_plain.specs.Legal.{Legal, after_all}
 use Rattle.xdb_plain.specs.Outcomes.{Outcome, succeeds, begins, fails, cancels, stays, outcome}
-use Rattle.xdb_plain.specs.Replies.{may_reply, same_reply, seal_replies}
+use Rattle.xdb_plain.specs.Replies.{may_reply, same_reply}
 use Rattle.xdb_plain.specs.State.{Plain, opening, groups, group_of, found_load}
 use Rattle.xdb_plain.specs.Steps.{MayStand}
 use Rattle.xdb_plain.specs.Tables.{TableOps}

@@ -1,11 +1,11 @@
 -- Jobs are numbered in order.
-use Rattle.std.proofs.Common.{◌≡◌, ℕ, ◌+◌, ◌<◌, ◌≤◌, Bool, true, false, cond, not, eqb, List, [], ◌∷◌, ◌++◌, map, filter, Option, Some, None, refl, sym, ap, subst, ◌∙◌, arith}
+use Rattle.std.proofs.Common.{◌≡◌, ℕ, ◌+◌, ◌<◌, ◌≤◌, Bool, true, false, cond, not, eqb, List, [], ◌∷◌, ◌++◌, map, Option, Some, None, refl, arith}
 use Rattle.xdb_key.specs.Bounds.{Bounds}
 use Rattle.xdb_key.specs.Groups.{Group}
 use Rattle.xdb_edit.specs.Plans.{Planned}
 use Rattle.xdb_plain.specs.Changes.{after, jobs_after, started_after, new_flush, new_compaction, cancelled_by, cancelled_job, span_of_load}
 use Rattle.xdb_plain.specs.Legal.{after_all}
-use Rattle.xdb_plain.specs.Outcomes.{Outcome, succeeds, begins, fails, cancels, stays, outcome}
+use Rattle.xdb_plain.specs.Outcomes.{Outcome, succeeds, fails, cancels, outcome}
 use Rattle.xdb_plain.specs.Replies.{plan_now}
 use Rattle.xdb_plain.specs.State.{Plain, Job, opening, without_job}
 use Rattle.xdb_plain.specs.declared.act.Act.{Act}

@@ -1,7 +1,9 @@
 pub mod CauseLaws
 pub mod CountLaws
+pub mod FileLaws
 pub mod GroupLaws
 pub mod JobLaws
+pub mod LevelLaws
 pub mod ProgressLaws
 pub mod QuestionLaws
 pub mod RefusalLaws

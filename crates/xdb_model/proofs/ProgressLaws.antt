@@ -1,5 +1,5 @@
 -- A snapshot is dropped, or goes on one way.
-use Rattle.std.proofs.Common.{◌≡◌, ℕ, Bool, true, false, cond, not, ◌&&◌, List, [], ◌∷◌, ◌++◌, map, Option, Some, None, refl, sym, ap, subst, ◌∙◌, inl, inr, ◌⊎◌}
+use Rattle.std.proofs.Common.{◌≡◌, ℕ, Bool, true, false, cond, not, ◌&&◌, List, [], ◌∷◌, ◌++◌, map, Option, refl, sym, ap, subst, inl, inr, ◌⊎◌}
 use Rattle.std.proofs.lemmas.Bool.{false≢true, and_parts}
 use Rattle.xdb_key.specs.Bounds.{Bounds}
 use Rattle.xdb_key.specs.Groups.{Group, last_touching}
@@ -9,7 +9,7 @@ use Rattle.xdb_key.specs.declared.state.SnapState.TheVariants.{Pinned, FileOnly,
 use Rattle.xdb_rangedel.specs.Members.{Has}
 use Rattle.xdb_plain.specs.Changes.{after, snaps_after, span_of_load, new_snap}
 use Rattle.xdb_plain.specs.Fences.{any_meet, span_list}
-use Rattle.xdb_plain.specs.Outcomes.{Outcome, succeeds, begins, fails, cancels, stays, outcome, groups_after, is_put_of_flush}
+use Rattle.xdb_plain.specs.Outcomes.{Outcome, succeeds, outcome, groups_after, is_put_of_flush}
 use Rattle.xdb_plain.specs.Snapshots.{is_pinned, turns, turned, excised}
 use Rattle.xdb_plain.specs.State.{Plain, Snapshot, same_name, without_snap}
 use Rattle.xdb_plain.specs.declared.act.Act.{Act}

@@ -1,16 +1,16 @@
 -- Questions are numbered in order.
-use Rattle.std.proofs.Common.{◌≡◌, ℕ, ◌+◌, ◌<◌, ◌≤◌, Bool, true, false, cond, not, eqb, leb, ◌||◌, List, [], ◌∷◌, ◌++◌, length, map, filter, Option, Some, None, refl, sym, ap, subst, ◌∙◌, arith}
-use Rattle.std.proofs.lemmas.Bool.{false≢true, eqb-true, or_cases}
-use Rattle.std.specs.List.{list_any, find}
+use Rattle.std.proofs.Common.{◌≡◌, ℕ, ◌+◌, ◌<◌, ◌≤◌, Bool, true, false, cond, not, eqb, leb, List, [], ◌∷◌, ◌++◌, length, map, Option, Some, None, refl, ap, ◌∙◌, arith}
+use Rattle.std.proofs.lemmas.Bool.{false≢true}
+use Rattle.std.specs.List.{list_any}
 use Rattle.xdb_key.specs.Bounds.{Bounds, holds, covers}
 use Rattle.xdb_key.specs.declared.state.SnapState.{SnapState}
 use Rattle.xdb_key.specs.declared.state.SnapState.TheVariants as state
 use Rattle.xdb_plain.specs.Changes.{after, questions_after, asked_after, new_question}
 use Rattle.xdb_plain.specs.Legal.{Legal, after_all}
-use Rattle.xdb_plain.specs.Outcomes.{Outcome, succeeds, begins, fails, cancels, stays, outcome}
+use Rattle.xdb_plain.specs.Outcomes.{Outcome, succeeds, begins, fails, stays, outcome}
 use Rattle.xdb_plain.specs.Replies.{may_reply, same_reply, ask_replies, new_ask_replies, room_replies, excised_or, through_replies, at_replies, on_cursor_replies, or_reply, busy_reply, busy_on}
 use Rattle.xdb_plain.specs.State.{Plain, Snapshot, Cursor, OpenQuestion, opening, found_snap, found_cursor, found_question, without_question}
-use Rattle.xdb_plain.specs.Steps.{MayStand, FitsAct, FitsAsk, asked_number}
+use Rattle.xdb_plain.specs.Steps.{FitsAct, FitsAsk, asked_number}
 use Rattle.xdb_plain.specs.declared.act.Act.{Act}
 use Rattle.xdb_plain.specs.declared.act.Act.TheVariants as act
 use Rattle.xdb_plain.specs.declared.act.By.{By}
@@ -20,7 +20,7 @@ use Rattle.xdb_plain.specs.declared.question.Question.{Question}
 use Rattle.xdb_plain.specs.declared.question.Question.TheVariants.{Get, Scan, RScan, Move}
 use Rattle.xdb_plain.specs.declared.reply.Reply.{Reply}
 use Rattle.xdb_plain.specs.declared.reply.Reply.TheVariants as reply
-use Rattle.xdb_model.proofs.CauseLaws.{replies, same-number}
+use Rattle.xdb_model.proofs.CauseLaws.{same-number}
 use Rattle.xdb_model.specs.Numbered.{RiseTo, QuestionsFit}
 
 -- ---- a question that is opened has the next number

@@ -1,31 +1,21 @@
 -- Which replies a read through a snapshot gets, and where a refusal comes from.
-use Rattle.std.proofs.Common.{◌≡◌, ℕ, ◌+◌, ◌≤◌, Bool, true, false, cond, leb, ◌&&◌, ◌||◌, List, [], ◌∷◌, ◌++◌, length, map, Option, Some, None, is_some, append_assoc, refl, sym, ap, subst, ◌∙◌, IsTrue, inl, inr}
-use Rattle.std.proofs.lemmas.Bool.{false≢true, leb-true, and_parts, or_cases}
-use Rattle.std.specs.List.{list_any, AllByRecursion}
+use Rattle.std.proofs.Common.{◌≡◌, ℕ, ◌+◌, Bool, true, false, cond, leb, List, [], ◌∷◌, length, Option, Some, None, is_some, refl, sym, ap, ◌∙◌}
+use Rattle.std.proofs.lemmas.Bool.{false≢true, leb-true}
+use Rattle.std.specs.List.{list_any}
 use Rattle.xdb_key.specs.Bounds.{Bounds, holds, covers}
-use Rattle.xdb_key.specs.Groups.{Group, last_touching}
 use Rattle.xdb_key.specs.declared.state.SnapState.{SnapState}
 use Rattle.xdb_key.specs.declared.state.SnapState.TheVariants as state
-use Rattle.xdb_rangedel.specs.Members.{Has}
-use Rattle.xdb_plain.specs.Changes.{after, snaps_after, span_of_load, new_snap}
-use Rattle.xdb_plain.specs.Fences.{any_meet, span_list, fence_of}
-use Rattle.xdb_plain.specs.Legal.{Legal, after_all}
-use Rattle.xdb_plain.specs.Outcomes.{Outcome, succeeds, begins, fails, cancels, stays, outcome, groups_after, is_put_of_flush}
-use Rattle.xdb_plain.specs.Replies.{may_reply, same_reply, ask_replies, room_replies, excised_or, through_replies, cursor_replies, install_replies, install_work_replies, or_reply, lacks_files, most_halves}
-use Rattle.xdb_plain.specs.Edits.{crossed}
-use Rattle.xdb_plain.specs.Snapshots.{is_pinned, state_by, first_state, turns, turned, excised}
-use Rattle.xdb_plain.specs.State.{Plain, Snapshot, Load, Phase, being_opened, waiting, is_in, opening, groups, same_name, found_snap, found_load, found_question, found_cursor, without_snap}
+use Rattle.xdb_plain.specs.Replies.{same_reply, ask_replies, room_replies, excised_or, through_replies}
+use Rattle.xdb_plain.specs.State.{Plain, Snapshot, found_snap, found_question, found_cursor}
 use Rattle.xdb_plain.specs.Steps.{MayStand}
-use Rattle.xdb_plain.specs.declared.act.Act.{Act}
 use Rattle.xdb_plain.specs.declared.act.Act.TheVariants as act
 use Rattle.xdb_plain.specs.declared.note.Note.{Note}
 use Rattle.xdb_plain.specs.declared.question.Question.{Question}
 use Rattle.xdb_plain.specs.declared.question.Question.TheVariants.{Get, Scan, RScan, Move}
 use Rattle.xdb_plain.specs.declared.reply.Reply.{Reply}
 use Rattle.xdb_plain.specs.declared.reply.Reply.TheVariants as reply
-use Rattle.xdb_plain.proofs.HistoryLaws.{after_all-push}
 use Rattle.xdb_model.proofs.CauseLaws.{replies, same-name}
-use Rattle.xdb_model.specs.Refusals.{snap_of, lies_in, IsReadReply, IsCursorReply, drops, Keeps, WasPinned, WasExcised, IsExplained, Explained}
+use Rattle.xdb_model.specs.Refusals.{snap_of, lies_in, IsReadReply, IsCursorReply}
 
 -- ---- reads
 

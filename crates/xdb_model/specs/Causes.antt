@@ -1,9 +1,8 @@
 -- What a reply tells of the state in which it was given.
-use Rattle.std.specs.Prelude.{◌≡◌, ℕ, List, ◌∷◌, Option, Some, None}
-use Rattle.xdb_key.specs.Bounds.{Bounds}
+use Rattle.std.specs.Prelude.{◌≡◌, ℕ, List, Option, Some}
 use Rattle.xdb_key.specs.Groups.{Group, first_touching}
 use Rattle.xdb_plain.specs.Fences.{fence_of}
-use Rattle.xdb_plain.specs.State.{Load, Phase, waiting, Job, JobKind, compaction_of, Compaction}
+use Rattle.xdb_plain.specs.State.{Load, waiting, Job, compaction_of, Compaction}
 
 -- the load waits for its install, and the group is the first that touches its fence
 pub record WaitsFor (load : Option Load) (gs : List Group) (g : ℕ) : Type 0 where

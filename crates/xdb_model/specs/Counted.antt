@@ -1,5 +1,5 @@
 -- Versions in use, and the files that they stand on.
-use Rattle.std.specs.Prelude.{◌≡◌, ℕ, List, map}
+use Rattle.std.specs.Prelude.{◌≡◌, ℕ, map}
 use Rattle.xdb_rangedel.specs.Members.{Has}
 use Rattle.xdb_plain.specs.Counts.{referenced, counts}
 use Rattle.xdb_plain.specs.State.{Plain, Version}

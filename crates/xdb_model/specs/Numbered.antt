@@ -1,7 +1,9 @@
 -- What the groups and the jobs of a state keep.
-use Rattle.std.specs.Prelude.{◌≡◌, ℕ, ◌+◌, ◌<◌, ◌≤◌, false, List, [], ◌∷◌, map}
+use Rattle.std.specs.Prelude.{◌≡◌, ℕ, ◌+◌, ◌<◌, ◌≤◌, false, List, [], ◌∷◌, length, map, IsTrue}
 use Rattle.std.specs.List.{AllByRecursion}
 use Rattle.xdb_key.specs.Groups.{Group}
+use Rattle.xdb_edit.specs.Versions.{are_sorted}
+use Rattle.xdb_plain.specs.Counts.{job_numbers}
 use Rattle.xdb_plain.specs.Edits.{is_empty}
 use Rattle.xdb_plain.specs.State.{Plain, groups}
 
@@ -31,3 +33,13 @@ JobsFit p = RiseTo 0 p.started (map (λ j. j.num) p.jobs)
 -- the open questions' numbers rise, and none is above that of the last one that was asked
 abbrev pub QuestionsFit : Plain → Type 0
 QuestionsFit p = RiseTo 0 p.asked (map (λ q. q.ask) p.questions)
+
+-- the file numbers of running jobs and of loads lie below the next one
+pub record FilesFit (p : Plain) : Type 0 where
+  pub of_jobs : AllByRecursion (λ j. j.first + job_numbers j.kind ≤ p.file) p.jobs
+  pub of_loads : AllByRecursion (λ l. l.first + length l.tables ≤ p.file) p.loads
+
+-- there are seven levels, each in its order
+pub record LevelsFit (p : Plain) : Type 0 where
+  pub seven : length p.current.levels ≡ 7
+  pub sorted : IsTrue (are_sorted p.current.levels)

@@ -1,6 +1,5 @@
 -- How a snapshot's state goes on.
-use Rattle.std.specs.Prelude.{◌≡◌, ℕ, List}
-use Rattle.xdb_key.specs.Bounds.{Bounds}
+use Rattle.std.specs.Prelude.{◌≡◌, List}
 use Rattle.xdb_key.specs.declared.state.SnapState.{SnapState}
 use Rattle.xdb_key.specs.declared.state.SnapState.TheVariants.{Pinned, FileOnly, Excised}
 use Rattle.xdb_rangedel.specs.Members.{Has}

@@ -1,5 +1,5 @@
 -- How a read through a snapshot is refused, and where a refusal comes from.
-use Rattle.std.specs.Prelude.{◌≡◌, ℕ, ◌≤◌, Bool, true, false, List, [], ◌∷◌, ◌++◌, length, Option, Some, None, is_some, IsTrue}
+use Rattle.std.specs.Prelude.{◌≡◌, ℕ, ◌≤◌, Bool, true, false, List, ◌∷◌, ◌++◌, length, Option, None, is_some, IsTrue}
 use Rattle.std.specs.List.{AllByRecursion}
 use Rattle.xdb_key.specs.Bounds.{Bounds, holds, covers}
 use Rattle.xdb_key.specs.declared.state.SnapState.{SnapState}

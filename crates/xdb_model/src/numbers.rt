@@ -1,9 +1,9 @@
-//! In every legal history groups and jobs are numbered in order.
+//! In every legal history groups, jobs, questions and files are numbered in order, and levels stand in theirs.
 ghost use Rattle.std.specs.Prelude.{ℕ, List};
 ghost use Rattle.xdb_plain.specs.Legal.{IsLegal, after_all};
 ghost use Rattle.xdb_plain.specs.State.{opening};
 ghost use Rattle.xdb_plain.specs.declared.note.Note.{Note};
-ghost use Rattle.xdb_model.specs.Numbered.{GroupsFit, JobsFit, QuestionsFit};
+ghost use Rattle.xdb_model.specs.Numbered.{GroupsFit, JobsFit, QuestionsFit, FilesFit, LevelsFit};
 
 /// The groups' numbers go up by one from the oldest to the active one, and every sealed group holds
 /// operations.
@@ -22,4 +22,17 @@ pub fn jobs_are_numbered()
 pub fn questions_are_numbered()
     ensures { (first_seq first_file : ℕ) (notes : List Note) → IsLegal first_seq first_file notes
         → QuestionsFit (after_all (opening first_seq first_file) notes) }
+{}
+
+/// The file numbers that running jobs and loads have lie below the next one. Since each is given from the next
+/// one on, none is given twice.
+pub fn file_numbers_are_given_in_order()
+    ensures { (first_seq first_file : ℕ) (notes : List Note) → IsLegal first_seq first_file notes
+        → FilesFit (after_all (opening first_seq first_file) notes) }
+{}
+
+/// The current version has seven levels, each in its order.
+pub fn levels_are_sorted()
+    ensures { (first_seq first_file : ℕ) (notes : List Note)
+        → LevelsFit (after_all (opening first_seq first_file) notes) }
 {}
