@@ -7,4 +7,5 @@ pub mod LevelLaws
 pub mod ProgressLaws
 pub mod QuestionLaws
 pub mod RefusalLaws
+pub mod TakenLaws
 pub mod ExcisedLaws

@@ -3,7 +3,7 @@ use Rattle.std.specs.Prelude.{◌≡◌, ℕ, ◌+◌, ◌<◌, ◌≤◌, false
 use Rattle.std.specs.List.{AllByRecursion}
 use Rattle.xdb_key.specs.Groups.{Group}
 use Rattle.xdb_edit.specs.Versions.{are_sorted}
-use Rattle.xdb_plain.specs.Counts.{job_numbers}
+use Rattle.xdb_plain.specs.Counts.{job_numbers, is_among}
 use Rattle.xdb_plain.specs.Edits.{is_empty}
 use Rattle.xdb_plain.specs.State.{Plain, groups}
 
@@ -43,3 +43,8 @@ pub record FilesFit (p : Plain) : Type 0 where
 pub record LevelsFit (p : Plain) : Type 0 where
   pub seven : length p.current.levels ≡ 7
   pub sorted : IsTrue (are_sorted p.current.levels)
+
+-- no number stands twice
+abbrev pub AreDistinct : List ℕ → Type 0
+AreDistinct [] = Unit {0}
+AreDistinct (n ∷ ns) = (is_among n ns ≡ false) × AreDistinct ns

@@ -3,7 +3,7 @@ ghost use Rattle.std.specs.Prelude.{ℕ, List};
 ghost use Rattle.xdb_plain.specs.Legal.{IsLegal, after_all};
 ghost use Rattle.xdb_plain.specs.State.{opening};
 ghost use Rattle.xdb_plain.specs.declared.note.Note.{Note};
-ghost use Rattle.xdb_model.specs.Numbered.{GroupsFit, JobsFit, QuestionsFit, FilesFit, LevelsFit};
+ghost use Rattle.xdb_model.specs.Numbered.{GroupsFit, JobsFit, QuestionsFit, FilesFit, LevelsFit, AreDistinct};
 
 /// The groups' numbers go up by one from the oldest to the active one, and every sealed group holds
 /// operations.
@@ -35,4 +35,10 @@ pub fn file_numbers_are_given_in_order()
 pub fn levels_are_sorted()
     ensures { (first_seq first_file : ℕ) (notes : List Note)
         → LevelsFit (after_all (opening first_seq first_file) notes) }
+{}
+
+/// No number is taken twice.
+pub fn numbers_are_taken_once()
+    ensures { (first_seq first_file : ℕ) (notes : List Note) → IsLegal first_seq first_file notes
+        → AreDistinct (after_all (opening first_seq first_file) notes).taken }
 {}
