@@ -1,0 +1,16 @@
+-- The slot at the place is taken out, and the others stay.
+use Rattle.std.proofs.Common.{◌≡◌, None, sym, ap, ◌∙◌}
+use Rattle.xdb_vset.specs.Holds.{slot_of}
+use Rattle.xdb_vset.proofs.BackingLaws.{same_choice}
+use Rattle.xdb_vset.proofs.HoldLaws.{emptied, no_slot}
+use Rattle.xdb_vset.proofs.holds.empty.Goals as goal
+
+pub returns-in-Ok-clause-slot : goal.returns-in-Ok-clause-slot
+returns-in-Ok-clause-slot c = λ n.
+    let place = rw c.deref.ensures.value at c.in-Ok.ensures in
+    ap (slot_of n) c.remove.ensures.items ∙ emptied c.args.slots.now.items c.args.id c.in-Ok.at c.requires.rising place.0 place.1 c.remove.result n
+
+pub returns-in_default-clause-slot : goal.returns-in_default-clause-slot
+returns-in_default-clause-slot c = λ n.
+    let place = rw c.deref.ensures.value at c.in_default.ensures in
+    sym (same_choice n c.args.id (λ m. slot_of m c.args.slots.now.items) None (no_slot c.args.slots.now.items c.args.id c.in_default.field-0 place))

@@ -1,0 +1,7 @@
+pub mod Numbers
+pub mod Counts
+pub mod Keyed
+pub mod Backings
+pub mod Hold
+pub mod Holds
+pub mod Seen
