@@ -1,13 +1,13 @@
 -- Running counts: read, raised, lowered and taken out.
-use Rattle.std.proofs.Common.{◌≡◌, ℕ, suc, [], ◌∷◌, ◌+◌, ◌-◌, ◌<◌, ◌≤◌, Bool, true, false, not, ◌&&◌, ◌||◌, cond, eqb, List, length, get_or, set, Option, Some, None, Err, refl, sym, ap, subst, ◌∙◌, inl, inr, arith}
-use Rattle.std.specs.List.{insert, remove}
+use Rattle.std.proofs.Common.{◌≡◌, ℕ, [], ◌∷◌, ◌+◌, ◌-◌, ◌<◌, ◌≤◌, Bool, true, false, not, ◌&&◌, ◌||◌, cond, eqb, ltb, List, ◌++◌, length, get_or, set, Option, Some, None, Err, refl, sym, ap, ap₂, subst, ◌∙◌, inl, inr, ◌⊎◌, arith}
+use Rattle.std.specs.List.{list_all, insert, remove}
 use Rattle.std.specs.Option.{option_map, unwrap_or, is_some, IsSome}
-use Rattle.std.proofs.lemmas.Bool.{cases_eq, eq-eqb, ne_eqb, cond-true, cond-false, and_right, false≢true}
+use Rattle.std.proofs.lemmas.Bool.{cases_eq, and_parts, ltb-true, eq-eqb, ne_eqb, cond-true, cond-false, and_right, false≢true}
 use Rattle.std.proofs.lemmas.List.Quantifiers.{all_pairs_remove}
 use Rattle.xdb_vset.specs.declared.backings.Backing.{Backing}
 use Rattle.xdb_vset.specs.Numbers.{EndsAt, is_among}
 use Rattle.xdb_vset.specs.Keyed.{IsRising, at_key}
-use Rattle.xdb_vset.specs.Backings.{count_in, file_in, FilesAre, DeadAre}
+use Rattle.xdb_vset.specs.Backings.{count_in, file_in, file_from, FilesAre, DeadAre}
 use Rattle.xdb_vset.proofs.KeyLaws.{key_found, key_missing, key_set, key_insert, key_remove}
 
 module _ {F : Type 0} (bs : List (Backing F)) (num : ℕ) where
@@ -185,15 +185,84 @@ module _ {F : Type 0} (bs : List (Backing F)) (num : ℕ) (at : ℕ) (rising : I
 
 -- ---- a bound on all counts
 
-pub count_bound : {F : Type 0} (bs : List (Backing F)) (m b : ℕ) → ((k : ℕ) (d : Backing F) → k < length bs → (get_or bs k d).count ≤ m) → count_in b bs ≤ m
-count_bound [] m b h = omega arith
-count_bound {F} (x ∷ bs) m b h = elim (cases_eq x.num b) [
-  | inl e ↦
-      let here : count_in b (x ∷ bs) ≡ x.count = ap (λ (o : Option (Backing F)). unwrap_or (option_map (λ b. b.count) o) 0) (cond-true (eqb x.num b) (Some x) (at_key (λ b. b.num) b bs) (eq-eqb x.num b e)) in
-      let low : x.count ≤ m = h 0 x (omega arith) in
-      omega arith
-  | inr ne ↦
-      let behind : count_in b (x ∷ bs) ≡ count_in b bs = ap (λ (o : Option (Backing F)). unwrap_or (option_map (λ b. b.count) o) 0) (cond-false (eqb x.num b) (Some x) (at_key (λ b. b.num) b bs) (ne_eqb x.num b ne)) in
-      let low : count_in b bs ≤ m = count_bound bs m b (λ k d l. h (suc k) d (omega arith)) in
-      omega arith
-]
+pub count_small : {F : Type 0} (bs : List (Backing F)) (total m b : ℕ) → total < m → list_all (λ x. ltb (x.count + total) m) bs ≡ true → count_in b bs + total < m
+count_small [] total m b small all = omega arith
+count_small {F} (x ∷ bs) total m b small all =
+    let parts = and_parts (ltb (x.count + total) m) (list_all (λ x. ltb (x.count + total) m) bs) all in
+    elim (cases_eq x.num b) [
+      | inl e ↦
+          let here : count_in b (x ∷ bs) ≡ x.count = ap (λ (o : Option (Backing F)). unwrap_or (option_map (λ b. b.count) o) 0) (cond-true (eqb x.num b) (Some x) (at_key (λ b. b.num) b bs) (eq-eqb x.num b e)) in
+          let low = ltb-true (x.count + total) m parts.0 in
+          omega arith
+      | inr ne ↦
+          let behind : count_in b (x ∷ bs) ≡ count_in b bs = ap (λ (o : Option (Backing F)). unwrap_or (option_map (λ b. b.count) o) 0) (cond-false (eqb x.num b) (Some x) (at_key (λ b. b.num) b bs) (ne_eqb x.num b ne)) in
+          let low = count_small bs total m b small parts.1 in
+          omega arith
+    ]
+
+-- ---- a file is settled: its number is dead just where nothing names it
+
+module _ {F : Type 0} (bs : List (Backing F)) (num b : ℕ) (taken dead dead' : List ℕ) where
+  -- a choice that falls on what is there
+  pub unsettled_file : (eqb b num ≡ true → (eqb (count_in b bs) 0 ≡ false) ⊎ (file_in b bs ≡ None)) → file_in b bs ≡ cond (eqb b num && eqb (count_in b bs) 0) None (file_in b bs)
+  unsettled_file h = choose (eqb b num) (eqb (count_in b bs) 0) refl refl
+    where
+      choose : (t z : Bool) → eqb b num ≡ t → eqb (count_in b bs) 0 ≡ z → file_in b bs ≡ cond (eqb b num && eqb (count_in b bs) 0) None (file_in b bs)
+      choose true true e f = elim (h e) [
+        | inl g ↦ absurd (false≢true (sym g ∙ f))
+        | inr g ↦ g ∙ sym (ap₂ (λ t z. cond (t && z) None (file_in b bs)) e f)
+      ]
+      choose true false e f = sym (ap₂ (λ t z. cond (t && z) None (file_in b bs)) e f)
+      choose false z e f = sym (ap (λ t. cond (t && eqb (count_in b bs) 0) None (file_in b bs)) e)
+
+  pub settled_file : (eqb b num ≡ true → eqb (count_in b bs) 0 ≡ true) → cond (eqb b num) None (file_in b bs) ≡ cond (eqb b num && eqb (count_in b bs) 0) None (file_in b bs)
+  settled_file h = choose (eqb b num) refl
+    where
+      choose : (t : Bool) → eqb b num ≡ t → cond (eqb b num) None (file_in b bs) ≡ cond (eqb b num && eqb (count_in b bs) 0) None (file_in b bs)
+      choose true e = ap (λ t. cond t None (file_in b bs)) e ∙ sym (ap₂ (λ t z. cond (t && z) None (file_in b bs)) e (h e))
+      choose false e = ap (λ t. cond t None (file_in b bs)) e ∙ sym (ap (λ t. cond (t && eqb (count_in b bs) 0) None (file_in b bs)) e)
+
+  pub settled_dead : (x : Bool) → (eqb b num ≡ true → is_some (file_in b bs) ≡ true) → (eqb b num ≡ true → x ≡ (eqb (count_in b bs) 0 && not (is_among b taken)))
+      → is_among b dead' ≡ ((not (eqb b num) && is_among b dead) || (eqb b num && x))
+      → is_among b dead' ≡ cond (eqb b num && is_some (file_in b bs)) (eqb (count_in b bs) 0 && not (is_among b taken)) (is_among b dead)
+  settled_dead x there is h = h ∙ choose (eqb b num) refl
+    where
+      or_false : (a : Bool) → (a || false) ≡ a
+      or_false true = refl
+      or_false false = refl
+
+      choose : (t : Bool) → eqb b num ≡ t → ((not (eqb b num) && is_among b dead) || (eqb b num && x)) ≡ cond (eqb b num && is_some (file_in b bs)) (eqb (count_in b bs) 0 && not (is_among b taken)) (is_among b dead)
+      choose true e =
+          ap (λ t. (not t && is_among b dead) || (t && x)) e ∙ is e
+          ∙ sym (ap₂ (λ t f. cond (t && f) (eqb (count_in b bs) 0 && not (is_among b taken)) (is_among b dead)) e (there e))
+      choose false e =
+          ap (λ t. (not t && is_among b dead) || (t && x)) e
+          ∙ or_false (is_among b dead)
+          ∙ sym (ap (λ t. cond (t && is_some (file_in b bs)) (eqb (count_in b bs) 0 && not (is_among b taken)) (is_among b dead)) e)
+
+  pub missing_dead : (eqb b num ≡ true → is_some (file_in b bs) ≡ false) → is_among b dead ≡ cond (eqb b num && is_some (file_in b bs)) (eqb (count_in b bs) 0 && not (is_among b taken)) (is_among b dead)
+  missing_dead gone = choose (eqb b num) refl
+    where
+      choose : (t : Bool) → eqb b num ≡ t → is_among b dead ≡ cond (eqb b num && is_some (file_in b bs)) (eqb (count_in b bs) 0 && not (is_among b taken)) (is_among b dead)
+      choose true e = sym (ap₂ (λ t f. cond (t && f) (eqb (count_in b bs) 0 && not (is_among b taken)) (is_among b dead)) e (gone e))
+      choose false e = sym (ap (λ t. cond (t && is_some (file_in b bs)) (eqb (count_in b bs) 0 && not (is_among b taken)) (is_among b dead)) e)
+
+-- one number more is settled
+pub more_files : {F : Type 0} (T t z : Bool) (o : Option F) → cond (t && z) None (cond (T && z) None o) ≡ cond ((T || t) && z) None o
+more_files true true true o = refl
+more_files true true false o = refl
+more_files true false true o = refl
+more_files true false false o = refl
+more_files false t z o = refl
+
+pub more_dead : {F : Type 0} (T t z k a : Bool) (o : Option F) → cond (t && is_some (cond (T && z) None o)) (z && k) (cond (T && is_some o) (z && k) a) ≡ cond ((T || t) && is_some o) (z && k) a
+more_dead true true true k a o = refl
+more_dead true true false k a (Some x) = refl
+more_dead true true false k a None = refl
+more_dead true false z k a o = refl
+more_dead false t z k a o = refl
+
+-- one file more is brought
+pub file_from_push : {F : Type 0} (fs : List (ℕ × F)) (f : ℕ × F) (b : ℕ) (o : Option F) → file_from (fs ++ f ∷ []) b o ≡ cond (eqb b f.0) (Some f.1) (file_from fs b o)
+file_from_push [] f b o = refl
+file_from_push (x ∷ fs) f b o = file_from_push fs f b (cond (eqb b x.0) (Some x.1) o)

@@ -1,17 +1,19 @@
 -- Tickets and holds: turned, taken out, and given.
-use Rattle.std.proofs.Common.{◌≡◌, ℕ, ◌+◌, ◌<◌, ◌≤◌, Bool, true, false, ◌||◌, cond, eqb, List, [], ◌∷◌, ◌++◌, length, get_or, take, set, Option, Some, None, Err, refl, sym, ap, subst, ◌∙◌, inl, inr, arith}
-use Rattle.std.specs.List.{remove, list_any, AllPairs, Any}
+use Rattle.std.proofs.Common.{◌≡◌, ℕ, ◌+◌, ◌<◌, ◌≤◌, true, false, not, ◌||◌, cond, eqb, List, [], ◌∷◌, ◌++◌, length, get_or, set, Option, Some, None, Err, refl, sym, ap, ◌∙◌, inl, inr, arith}
+use Rattle.std.specs.List.{remove}
 use Rattle.std.specs.Option.{option_map, option_or, is_some, IsSome}
-use Rattle.std.proofs.lemmas.Bool.{cases_eq, eq-eqb, eqb-true, ne_eqb, cond-true, cond-false, or_left, or_right, false≢true}
+use Rattle.std.proofs.lemmas.Bool.{cases_eq, cases_Bool, eq-eqb, eqb-true, ne_eqb, cond-true, cond-false, or_left, or_right, false≢true}
 use Rattle.std.proofs.lemmas.List.{get_or_default}
 use Rattle.std.proofs.lemmas.List.Folds.{Any-from_list_any, find-append}
 use Rattle.std.proofs.lemmas.List.Quantifiers.{all_pairs_push}
+use Rattle.std.proofs.lemmas.List.Sums.{count_by-le-length, sum_by-cons, sum_by-set, sum_by-remove, sum_by_push}
 use Rattle.xdb_vset.specs.declared.holds.Slot.{Slot}
 use Rattle.xdb_vset.specs.Numbers.{EndsAt}
 use Rattle.xdb_vset.specs.Keyed.{IsRising, at_key}
-use Rattle.xdb_vset.specs.Holds.{slot_of, is_held, holds_version}
+use Rattle.xdb_vset.specs.Holds.{slot_of, is_held, held_by, holds_version}
 use Rattle.xdb_vset.proofs.KeyLaws.{key_found, key_missing, key_set, key_remove}
-use Rattle.xdb_vset.proofs.BackingLaws.{ap_cond, same_choice}
+use Rattle.xdb_vset.proofs.NumberLaws.{eqb_turned}
+use Rattle.xdb_vset.proofs.BackingLaws.{ap_cond}
 
 module _ (ss : List Slot) (id : ℕ) (at : ℕ) (rising : IsRising (λ s. s.id) ss) (l : at < length ss) (here : (d : Slot) → (get_or ss at d).id ≡ id) where
   pub filled : (y : Slot) → y.id ≡ id → (n : ℕ) → slot_of n (set ss at y) ≡ cond (eqb n id) (Some y.version) (slot_of n ss)
@@ -19,6 +21,59 @@ module _ (ss : List Slot) (id : ℕ) (at : ℕ) (rising : IsRising (λ s. s.id) 
 
   pub emptied : (d : Slot) (n : ℕ) → slot_of n (remove ss at) ≡ cond (eqb n id) None (slot_of n ss)
   emptied d n = ap (option_map (λ s. s.version)) (key_remove (λ s. s.id) id ss at d rising l here n) ∙ ap_cond (λ (o : Option Slot). option_map (λ s. s.version) o) (eqb n id) None (at_key (λ s. s.id) n ss)
+
+  stands : (d : Slot) (o : Option ℕ) → slot_of id ss ≡ Some o → (get_or ss at d).version ≡ o
+  stands d o h =
+      let found : Some (get_or ss at d).version ≡ Some o = sym (ap (option_map (λ s. s.version)) (key_found (λ s. s.id) id ss at d rising l here)) ∙ h in
+      cc
+
+  pub filled_held : (y : Slot) (v : ℕ) → y.version ≡ Some v → slot_of id ss ≡ Some None → (w : ℕ) → held_by w (set ss at y) ≡ held_by w ss + cond (eqb w v) 1 0
+  filled_held y v e ticket w =
+      let sum = sum_by-set (λ s. cond (holds_version w s.version) 1 0) ss at y y l in
+      let none : cond {A = ℕ} (holds_version w (get_or ss at y).version) 1 0 ≡ 0 = ap (λ (o : Option ℕ). cond {A = ℕ} (holds_version w o) 1 0) (stands y None ticket) in
+      let one : cond {A = ℕ} (holds_version w y.version) 1 0 ≡ cond {A = ℕ} (eqb w v) 1 0 = ap (λ (o : Option ℕ). cond {A = ℕ} (holds_version w o) 1 0) e ∙ ap (λ b. cond {A = ℕ} b 1 0) (eqb_turned v w) in
+      omega arith
+
+  pub emptied_held : (d : Slot) (v : ℕ) → slot_of id ss ≡ Some (Some v) → (w : ℕ) → held_by w (remove ss at) + cond (eqb w v) 1 0 ≡ held_by w ss
+  emptied_held d v hold w =
+      let sum = sum_by-remove (λ s. cond (holds_version w s.version) 1 0) ss at d l in
+      let one : cond {A = ℕ} (holds_version w (get_or ss at d).version) 1 0 ≡ cond {A = ℕ} (eqb w v) 1 0 = ap (λ (o : Option ℕ). cond {A = ℕ} (holds_version w o) 1 0) (stands d (Some v) hold) ∙ ap (λ b. cond {A = ℕ} b 1 0) (eqb_turned v w) in
+      omega arith
+
+-- no version is held more often than there are holds
+pub held_few : (ss : List Slot) (w : ℕ) → held_by w ss ≤ length ss
+held_few ss w = count_by-le-length (λ (s : Slot). holds_version w s.version) ss
+
+-- held is what some hold is of
+pub held_counted : (ss : List Slot) (w : ℕ) → is_held w ss ≡ not (eqb (held_by w ss) 0)
+held_counted [] w = refl
+held_counted (s ∷ ss) w =
+    let sum = sum_by-cons (λ s. cond (holds_version w s.version) 1 0) s ss in
+    elim (cases_Bool (holds_version w s.version)) [
+      | inl e ↦
+          let one : cond {A = ℕ} (holds_version w s.version) 1 0 ≡ 1 = ap (λ b. cond {A = ℕ} b 1 0) e in
+          or_left (holds_version w s.version) (is_held w ss) e ∙ sym (ap not (ne_eqb (held_by w (s ∷ ss)) 0 (omega arith)))
+      | inr e ↦
+          let none : cond {A = ℕ} (holds_version w s.version) 1 0 ≡ 0 = ap (λ b. cond {A = ℕ} b 1 0) e in
+          let same : held_by w (s ∷ ss) ≡ held_by w ss = omega arith in
+          ap (λ b. b || is_held w ss) e ∙ held_counted ss w ∙ sym (ap (λ n. not (eqb n 0)) same)
+    ]
+
+pub is_held_some : (ss : List Slot) (w : ℕ) → 0 < held_by w ss → is_held w ss ≡ true
+is_held_some ss w some = held_counted ss w ∙ ap not (ne_eqb (held_by w ss) 0 (omega arith))
+
+pub is_held_none : (ss : List Slot) (w : ℕ) → held_by w ss ≡ 0 → is_held w ss ≡ false
+is_held_none ss w none = held_counted ss w ∙ ap not (eq-eqb (held_by w ss) 0 none)
+
+-- one hold less of the version
+pub one_held : (v old new : ℕ) → new + cond (eqb v v) 1 0 ≡ old → new + 1 ≡ old
+one_held v old new h = let one : cond {A = ℕ} (eqb v v) 1 0 ≡ 1 = cond-true {A = ℕ} (eqb v v) 1 0 (eq-eqb v v refl) in omega arith
+
+pub held_pushed : (ss : List Slot) (id w : ℕ) → held_by w (ss ++ record { id = id; version = None } ∷ []) ≡ held_by w ss
+held_pushed ss id w =
+    let y : Slot = record { id = id; version = None } in
+    let sum : held_by w (ss ++ y ∷ []) ≡ held_by w ss + 0 = sum_by_push (λ s. cond (holds_version w s.version) 1 0) ss y in
+    omega arith
 
 pub no_slot : (ss : List Slot) (id at : ℕ) → EndsAt (λ s. s.id) (λ s. s.id < id) (λ s. id < s.id) ss id (Err at) → None ≡ slot_of id ss
 no_slot ss id at h = sym (ap (option_map (λ s. s.version)) (key_missing (λ s. s.id) id ss at h))

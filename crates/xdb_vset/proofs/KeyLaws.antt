@@ -1,6 +1,6 @@
 -- Lists in the order of a number: sought, changed at a place, put in and taken out.
-use Rattle.std.proofs.Common.{◌≡◌, ℕ, zero, suc, ◌+◌, ◌-◌, ◌<◌, ◌≤◌, Bool, true, false, cond, ltb, eqb, List, [], ◌∷◌, ◌++◌, length, get_or, take, drop, set, Option, Some, None, Result, Ok, Err, refl, sym, ap, ap₂, subst, ◌∙◌, inl, inr, add-one, arith}
-use Rattle.std.specs.List.{AllPairs, find, insert, remove}
+use Rattle.std.proofs.Common.{◌≡◌, ℕ, suc, ◌+◌, ◌<◌, ◌≤◌, cond, eqb, List, [], ◌∷◌, ◌++◌, map, length, get_or, take, drop, set, Option, Some, None, Result, Ok, Err, refl, sym, ap, ◌∙◌, inl, inr, add-one, arith}
+use Rattle.std.specs.List.{insert, remove}
 use Rattle.std.specs.List.Sorted.{IsBinarySearchResult, IsSearchInRange, IsNonDecreasingBy}
 use Rattle.std.specs.Option.{option_or}
 use Rattle.std.specs.declared.cmp.Ordering.TheVariants.{Less, Equal, Greater}
@@ -8,7 +8,7 @@ use Rattle.std.specs.Ordering.{nat_cmp, ordering_index}
 use Rattle.std.proofs.lemmas.Bool.{cases_order, cases_lt, cases_eq, eq-eqb, ne_eqb, cond-true, cond-false}
 use Rattle.std.proofs.lemmas.Bool.Decides.{nat_tests}
 use Rattle.std.proofs.lemmas.Cmp.{ranked}
-use Rattle.std.proofs.lemmas.List.{take-append-drop, drop_more, set_split, get_or-take, length-take, length-set, get_or-set_same, get_or-set_other, get_or_default}
+use Rattle.std.proofs.lemmas.List.{take-append-drop, drop_more, set_split, get_or-take, length-take, length-set, get_or-set_same, get_or-set_other, get_or-map, length-map}
 use Rattle.std.proofs.lemmas.List.Edits.{length-remove, get_or-remove_below, get_or-remove_above}
 use Rattle.std.proofs.lemmas.List.Folds.{find-append}
 use Rattle.xdb_vset.specs.Numbers.{EndsAt}
@@ -136,3 +136,33 @@ module _ {X : Type 0} (key : X → ℕ) where
         | inr ne ↦ ap key (get_or-set_other xs at k y d ne)
       ] in
       let a = keys i in let b = keys j in omega arith
+
+  -- ---- one more at the end
+
+  pub key_pushed : (xs : List X) (y : X) → at_key key (key y) xs ≡ None → (n : ℕ) → at_key key n (xs ++ y ∷ []) ≡ cond (eqb n (key y)) (Some y) (at_key key n xs)
+  key_pushed xs y none n = find-append (λ x. eqb (key x) n) xs (y ∷ []) ∙ elim (cases_eq n (key y)) [
+    | inl e ↦
+        ap (λ o. option_or o (cond (eqb (key y) n) (Some y) None)) (ap (λ k. at_key key k xs) e ∙ none)
+        ∙ cond-true (eqb (key y) n) (Some y) None (eq-eqb (key y) n (sym e))
+        ∙ sym (cond-true (eqb n (key y)) (Some y) (at_key key n xs) (eq-eqb n (key y) e))
+    | inr ne ↦
+        ap (option_or (at_key key n xs)) (cond-false (eqb (key y) n) (Some y) None (ne_eqb (key y) n (λ f. ne (sym f))))
+        ∙ or_none (at_key key n xs)
+        ∙ sym (cond-false (eqb n (key y)) (Some y) (at_key key n xs) (ne_eqb n (key y) ne))
+  ]
+    where
+      or_none : (o : Option X) → option_or o None ≡ o
+      or_none (Some x) = refl
+      or_none None = refl
+
+-- the order of a key goes over to what is made of each element
+pub rising_map : {X Y : Type 0} (key : X → ℕ) (key' : Y → ℕ) (f : X → Y) → ((x : X) → key' (f x) ≡ key x) → (xs : List X) → IsRising key xs → IsRising key' (map f xs)
+rising_map key key' f same [] rising = λ i j d less l. absurd (omega arith)
+rising_map key key' f same (x ∷ xs) rising = λ i j d less l.
+    let long = length-map (x ∷ xs) f in
+    let a = ap key' (get_or-map f (x ∷ xs) i x d (omega arith)) in
+    let b = ap key' (get_or-map f (x ∷ xs) j x d (omega arith)) in
+    let p = same (get_or (x ∷ xs) i x) in
+    let q = same (get_or (x ∷ xs) j x) in
+    let h = rising i j x less (omega arith) in
+    omega arith

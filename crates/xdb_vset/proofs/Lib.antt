@@ -3,5 +3,7 @@ pub mod NumberLaws
 pub mod KeyLaws
 pub mod BackingLaws
 pub mod HoldLaws
+pub mod InUseLaws
 pub mod VersionLaws
 pub mod SetLaws
+pub mod InstallLaws

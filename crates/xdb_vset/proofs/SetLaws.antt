@@ -1,8 +1,8 @@
 -- What holds of a version set stays.
-use Rattle.std.proofs.Common.{◌≡◌, ℕ, zero, suc, ap₂, ◌+◌, ◌-◌, ◌<◌, ◌≤◌, Bool, true, false, not, ◌&&◌, ◌||◌, cond, eqb, List, [], ◌∷◌, ◌++◌, map, length, get_or, Err, Option, Some, None, refl, sym, ap, subst, ◌∙◌, inl, inr, ◌⊎◌, arith}
+use Rattle.std.proofs.Common.{◌≡◌, ℕ, suc, ap₂, ◌+◌, ◌<◌, ◌≤◌, Bool, true, false, not, ◌&&◌, ◌||◌, cond, eqb, List, [], ◌∷◌, ◌++◌, map, length, get_or, Err, Option, Some, None, refl, sym, ap, subst, ◌∙◌, inl, inr, ◌⊎◌, arith}
 use Rattle.std.specs.Option.{option_map, is_some, IsSome}
 use Rattle.std.specs.List.{sum_by, remove}
-use Rattle.std.proofs.lemmas.Bool.{cases_eq, eq-eqb, ne_eqb, cond-true, cond-false, or_left, or_right, or_from, and_left, and_right, false≢true}
+use Rattle.std.proofs.lemmas.Bool.{cases_eq, eq-eqb, ne_eqb, cond-true, cond-false, or_left, or_right, or_from, and_right, false≢true}
 use Rattle.std.proofs.lemmas.List.Quantifiers.{all_pairs_remove}
 use Rattle.xdb_vset.specs.declared.backings.Backing.{Backing}
 use Rattle.std.proofs.lemmas.List.Sums.{sum_by-cons, sum_by-append, sum_by-remove}
@@ -13,11 +13,13 @@ use Rattle.xdb_vset.specs.Numbers.{is_among, IsFalling, EndsAt}
 use Rattle.xdb_vset.specs.Counts.{named_by, count}
 use Rattle.xdb_vset.specs.Backings.{count_in, file_in, FilesAre, DeadAre}
 use Rattle.xdb_vset.specs.Seen.{Seen, IsSet, is_dead, named, version_of}
-use Rattle.xdb_vset.specs.declared.older.Numbered.{Numbered}
+use Rattle.xdb_vset.specs.declared.older.InUse.{InUse}
+use Rattle.xdb_vset.specs.Versions.{Numbered, version_in}
 use Rattle.xdb_vset.proofs.KeyLaws.{key_found, key_missing, key_remove}
 use Rattle.xdb_vset.proofs.BackingLaws.{count_found}
+use Rattle.xdb_vset.proofs.InUseLaws.{seen_at, seen_some}
 use Rattle.std.proofs.lemmas.List.{get_or_default}
-use Rattle.xdb_vset.proofs.NumberLaws.{least, left_over}
+use Rattle.xdb_vset.proofs.NumberLaws.{left_over}
 use Rattle.xdb_vset.proofs.HoldLaws.{held_from, held_tells, slot_pushed, rising_pushed}
 
 -- a ticket becomes a hold of a version that is there
@@ -54,6 +56,14 @@ set_held s slots t v is ticket there rising changed =
       taken_fall = is.taken_fall;
     }
 
+-- the number of the next ticket is new
+pub none_next : {F : Type 0} (s : Seen F) → IsSet s → slot_of s.next s.slots ≡ None
+none_next s is = choose (slot_of s.next s.slots) refl
+  where
+    choose : (o : Option (Option ℕ)) → slot_of s.next s.slots ≡ o → slot_of s.next s.slots ≡ None
+    choose None f = f
+    choose (Some x) f = let less = is.slots_before s.next (ap is_some f) in absurd (omega arith)
+
 -- one more ticket
 pub set_ticket : {F : Type 0} (s : Seen F) (slots : List Slot) (next : ℕ) → IsSet s → slots ≡ s.slots ++ record { id = s.next; version = None } ∷ [] → next ≡ s.next + 1 → IsSet (record s { slots = slots; next = next })
 set_ticket s slots next is e later =
@@ -85,13 +95,6 @@ set_ticket s slots next is e later =
       dead_fall = is.dead_fall;
       taken_fall = is.taken_fall;
     }
-  where
-    none_next : {F : Type 0} (s : Seen F) → IsSet s → slot_of s.next s.slots ≡ None
-    none_next s is = choose (slot_of s.next s.slots) refl
-      where
-        choose : (o : Option (Option ℕ)) → slot_of s.next s.slots ≡ o → slot_of s.next s.slots ≡ None
-        choose None f = f
-        choose (Some x) f = let less = is.slots_before s.next (ap is_some f) in absurd (omega arith)
 
 -- ---- the dead
 
@@ -128,17 +131,24 @@ set_taken s dead taken spare num is e falling falls more = record {
 
 -- ---- the version that is held
 
-pub version_found : {F : Type 0} (s : Seen F) (v at : ℕ) (x : Numbered) → IsSet s → (v ≡ s.current.num → ⊥) → at < length s.older → ((d : Numbered) → (get_or s.older at d).num ≡ v) → x ≡ get_or s.older at x → Some x.levels ≡ version_of s v
-version_found s v at x is other l here read =
-    ap (λ (w : Numbered). Some w.levels) read
-    ∙ sym (ap (option_map (λ w. w.levels)) (key_found (λ w. w.num) v s.older at x is.older_rise l here))
+pub version_found : {F : Type 0} (s : Seen F) (olds : List InUse) (v at : ℕ) (x : InUse) → IsSet s → s.older ≡ map version_in olds → IsRising (λ w. w.num) olds → (v ≡ s.current.num → ⊥) → at < length olds → ((d : InUse) → (get_or olds at d).num ≡ v) → x ≡ get_or olds at x → Some x.levels ≡ version_of s v
+version_found s olds v at x is same rising other l here read =
+    ap (λ (w : InUse). Some w.levels) read
+    ∙ sym (ap (λ (o : Option InUse). option_map (λ (w : Numbered). w.levels) (option_map version_in o)) (key_found (λ w. w.num) v olds at x rising l here))
+    ∙ sym (ap (option_map (λ (w : Numbered). w.levels)) (ap (at_key (λ w. w.num) v) same ∙ seen_at v olds))
     ∙ sym (cond-false (eqb s.current.num v) (Some s.current.levels) (option_map (λ w. w.levels) (at_key (λ w. w.num) v s.older)) (ne_eqb s.current.num v (λ e. other (sym e))))
 
-pub never_lost : {F : Type 0} (s : Seen F) (id v at : ℕ) → IsSet s → (v ≡ s.current.num → ⊥) → slot_of id s.slots ≡ Some (Some v) → EndsAt (λ w. w.num) (λ w. w.num < v) (λ w. v < w.num) s.older v (Err at) → ⊥
-never_lost s id v at is other held h = elim (is.holds_stand id v held) [
+pub never_lost : {F : Type 0} (s : Seen F) (olds : List InUse) (id v at : ℕ) → IsSet s → s.older ≡ map version_in olds → (v ≡ s.current.num → ⊥) → slot_of id s.slots ≡ Some (Some v) → EndsAt (λ w. w.num) (λ w. w.num < v) (λ w. v < w.num) olds v (Err at) → ⊥
+never_lost s olds id v at is same other held h = elim (is.holds_stand id v held) [
   | inl e ↦ other e
-  | inr some ↦ false≢true (sym (ap is_some (key_missing (λ w. w.num) v s.older at h)) ∙ some)
+  | inr some ↦ false≢true (sym (ap is_some (ap (at_key (λ w. w.num) v) same) ∙ seen_some v olds ∙ ap is_some (key_missing (λ w. w.num) v olds at h)) ∙ some)
 ]
+
+-- what stands still is held and current as before
+pub set_same : {F : Type 0} (s : Seen F) (current : Numbered) (older : List Numbered) → current ≡ s.current → older ≡ s.older → IsSet s → IsSet (record s { current = current; older = older })
+set_same s current older e f is =
+    subst (λ (o : List Numbered). IsSet (record s { current = current; older = o })) (sym f)
+    (subst (λ (c : Numbered). IsSet (record s { current = c; older = s.older })) (sym e) is)
 
 -- ---- a hold is given back
 
@@ -202,7 +212,7 @@ sum_map f h (x ∷ xs) =
     let c = sum_map f h xs in
     omega arith
 
-named_split : (older : List Numbered) (current : Numbered) (b : ℕ) → count b (map (λ w. w.levels) (older ++ current ∷ [])) ≡ sum_by (λ w. named_by b w.levels) older + named_by b current.levels
+pub named_split : (older : List Numbered) (current : Numbered) (b : ℕ) → count b (map (λ w. w.levels) (older ++ current ∷ [])) ≡ sum_by (λ w. named_by b w.levels) older + named_by b current.levels
 named_split older current b =
     let a : count b (map (λ w. w.levels) (older ++ current ∷ [])) ≡ sum_by (λ w. named_by b w.levels) (older ++ current ∷ []) = sum_map (named_by b) (λ (w : Numbered). w.levels) (older ++ current ∷ []) in
     let e = sum_by-append (λ (w : Numbered). named_by b w.levels) older (current ∷ []) in
@@ -238,6 +248,14 @@ files_are {F} s is = λ b. choose b (file_in b s.backings) refl
       | inr ne ↦ sym (cond-false (eqb (count_in b s.backings) 0) None (file_in b s.backings) (ne_eqb (count_in b s.backings) 0 ne))
     ]
 
+-- the current version isn't among the older ones
+pub older_none : {F : Type 0} (s : Seen F) → IsSet s → at_key (λ w. w.num) s.current.num s.older ≡ None
+older_none s is = choose (at_key (λ w. w.num) s.current.num s.older) refl
+  where
+    choose : (o : Option Numbered) → at_key (λ w. w.num) s.current.num s.older ≡ o → at_key (λ w. w.num) s.current.num s.older ≡ None
+    choose None e = e
+    choose (Some x) e = let less = is.older_before s.current.num (ap is_some e) in absurd (omega arith)
+
 -- what is referenced is current or held
 pub referenced_only : {F : Type 0} (s : Seen F) (w : ℕ) → IsSet s → version_of s w ≡ cond (eqb s.current.num w || is_held w s.slots) (version_of s w) None
 referenced_only {F} s w is = choose (eqb s.current.num w) (is_held w s.slots) (at_key (λ w. w.num) w s.older) refl refl refl
@@ -249,6 +267,12 @@ referenced_only {F} s w is = choose (eqb s.current.num w) (is_held w s.slots) (a
         cond-false (eqb s.current.num w) (Some s.current.levels) (option_map (λ w. w.levels) (at_key (λ w. w.num) w s.older)) e ∙ ap (option_map (λ (w : Numbered). w.levels)) k
         ∙ sym (cond-false (eqb s.current.num w || is_held w s.slots) (version_of s w) None (or_from (eqb s.current.num w) (is_held w s.slots) e f))
     choose false false (Some x) e f k = absurd (false≢true (sym f ∙ is.older_held w (ap is_some k)))
+
+-- where the versions stay, what is current or held stays
+pub version_kept : {F : Type 0} (s new : Seen F) → IsSet s → IsSet new → new.current ≡ s.current → new.older ≡ s.older → (w : ℕ) → version_of new w ≡ cond (eqb s.current.num w || is_held w new.slots) (version_of s w) None
+version_kept s new was is cur old w =
+    referenced_only new w is
+    ∙ ap₂ (λ (c : Numbered) (o : List Numbered). cond (eqb c.num w || is_held w new.slots) (cond (eqb c.num w) (Some c.levels) (option_map (λ w. w.levels) (at_key (λ w. w.num) w o))) None) cur old
 
 -- ---- the last hold of a version that isn't current is given back
 
@@ -409,3 +433,8 @@ dies bs taken num n d z t = ap (λ a. a || d) (sym (and_true (eqb n num))) ∙ d
 
 pub lives : {F : Type 0} (bs : List (Backing F)) (taken : List ℕ) (num n : ℕ) (d : Bool) → (eqb (count_in num bs) 0 && not (is_among num taken)) ≡ false → d ≡ ((eqb n num && (eqb (count_in n bs) 0 && not (is_among n taken))) || d)
 lives bs taken num n d h = sym (ap (λ a. a || d) (and_right (eqb n num) false refl)) ∙ died_by bs taken num n false d h
+
+pub set_moved : {F : Type 0} (s : Seen F) (older : List Numbered) (bs : List (Backing F)) (spare : ℕ) → older ≡ s.older → bs ≡ s.backings → IsSet s → IsSet (record s { older = older; backings = bs; spare = spare })
+set_moved {F} s older bs spare e f is =
+    subst (λ (o : List Numbered). IsSet (record s { older = o; backings = bs; spare = spare })) (sym e)
+    (subst (λ (xs : List (Backing F)). IsSet (record s { backings = xs; spare = spare })) (sym f) (set_spare s spare is))

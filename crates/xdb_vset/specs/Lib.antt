@@ -4,4 +4,5 @@ pub mod Keyed
 pub mod Backings
 pub mod Hold
 pub mod Holds
+pub mod Versions
 pub mod Seen

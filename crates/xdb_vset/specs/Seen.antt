@@ -1,16 +1,15 @@
 -- What is seen of a version set, and what holds of it.
 use Rattle.std.specs.Prelude.{◌≡◌, ℕ, ◌+◌, ◌-◌, min, ◌<◌, ◌≤◌, ◌==◌, ◌&&◌, not, Bool, false, List, [], ◌∷◌, ◌++◌, map, Option, Some, None, IsTrue, IsSome, is_some, ◌⊎◌, if◌then◌else◌}
-use Rattle.std.specs.List.{list_any, All}
 use Rattle.std.specs.Option.{option_map}
 use Rattle.xdb_edit.specs.Versions.{LevelLists}
 use Rattle.xdb_vset.specs.declared.holds.Slot.{Slot}
 use Rattle.xdb_vset.specs.declared.backings.Backing.{Backing}
-use Rattle.xdb_vset.specs.declared.older.Numbered.{Numbered}
 use Rattle.xdb_vset.specs.Counts.{count}
 use Rattle.xdb_vset.specs.Keyed.{IsRising, at_key}
 use Rattle.xdb_vset.specs.Numbers.{is_among, IsFalling}
 use Rattle.xdb_vset.specs.Backings.{count_in, file_in, DeadAre}
 use Rattle.xdb_vset.specs.Holds.{slot_of, is_held}
+use Rattle.xdb_vset.specs.Versions.{Numbered}
 
 -- the current version, the others that are held, the tickets and holds, the files that are named with their
 -- running counts, the known numbers, those of them that are dead and those that were taken, room for more

@@ -1,11 +1,11 @@
 //! The files that tables of referenced versions name, and how often each is named.
-ghost use Rattle.std.specs.Prelude.{Bool, List, Option, slice_index_or, ◌≡◌, ◌+◌, ◌-◌, ◌≤◌, ◌<◌, ◌==◌, ◌&&◌, ◌||◌, ◌^◌, not, ℕ, Some, None, length, vec_len, IsSome, IsTrue, option_copied, if◌then◌else◌};
+ghost use Rattle.std.specs.Prelude.{Bool, List, Option, slice_index_or, ◌≡◌, ◌+◌, ◌-◌, ◌≤◌, ◌<◌, ◌==◌, ◌&&◌, ◌||◌, ◌^◌, not, ℕ, Some, None, length, vec_len, IsSome, IsTrue, is_some, nat_lt, option_copied, if◌then◌else◌};
 ghost use Rattle.std.specs.Vec.{vec_capacity};
 ghost use Rattle.std.specs.List.{remove};
 ghost use Rattle.xdb_vset.specs.Numbers.{is_among, IsFalling, EndsAt};
 ghost use Rattle.xdb_vset.specs.Keyed.{IsRising};
-ghost use Rattle.xdb_vset.specs.Counts.{named_in, named_by};
-ghost use Rattle.xdb_vset.specs.Backings.{count_in, file_in, FilesAre, DeadAre};
+ghost use Rattle.xdb_vset.specs.Counts.{named_in, named_by, table_count};
+ghost use Rattle.xdb_vset.specs.Backings.{count_in, file_in, file_from, may_rise, FilesAre, DeadAre};
 
 use crate::numbers;
 use xdb_levels::Version;
@@ -231,27 +231,50 @@ pub fn lower_version<F: Drop>(
     }
 }
 
-/// Whether no count passes the greatest number where the version is named once more.
-pub fn can_raise<F>(backings: &[Backing<F>], version: &Version) -> bool
-    requires { IsRising (λ b. b.num) backings.now }
-    ensures { IsTrue result → (b : ℕ) → count_in b backings.now + named_by b version.now < 2 ^ 64 }
+/// How many tables the version has, where the number can be told.
+fn table_count(version: &Version) -> Option<u64>
+    ensures { result ≡ (if nat_lt (table_count version.now) (2 ^ 64) then Some (table_count version.now) else None) }
 {
     let mut total: u64 = 0;
     for level in 0..level_count(version) {
-        match total.checked_add(version.tables(level).len() as u64) {
-            Some(sum) => total = sum,
-            None => return false,
-        }
+        total = total.checked_add(version.tables(level).len() as u64)?;
     }
+    Some(total)
+}
+
+/// Whether no count passes the greatest number where the version is named once more.
+pub fn can_raise<F>(backings: &[Backing<F>], version: &Version) -> bool
+    requires { IsRising (λ b. b.num) backings.now }
+    ensures exact { result ≡ may_rise backings.now version.now }
+    ensures small { IsTrue result → (b : ℕ) → count_in b backings.now + named_by b version.now < 2 ^ 64 }
+{
+    let Some(total) = table_count(version) else {
+        return false;
+    };
     for backing in backings {
-        if backing.count > u64::MAX - total {
+        if backing.count.checked_add(total).is_none() {
             return false;
         }
     }
     true
 }
 
-/// Lets the file go where nothing names it, as a new file that no table of its edit lies in.
+/// Brings each of the files. Takes no memory.
+pub fn bring_all<F: Drop>(backings: &mut Vec<Backing<F>>, files: Vec<(u64, F)>)
+    requires rising { IsRising (λ b. b.num) backings.old.items }
+    requires room { vec_len backings.old + length files.items ≤ vec_capacity backings.old }
+    ensures rising { IsRising (λ b. b.num) backings.new.items }
+    ensures count { (b : ℕ) → count_in b backings.new.items ≡ count_in b backings.old.items }
+    ensures file { (b : ℕ) → file_in b backings.new.items ≡ file_from files.items b (file_in b backings.old.items) }
+    ensures len { vec_len backings.new ≤ vec_len backings.old + length files.items }
+    ensures capacity { vec_capacity backings.old ≤ vec_capacity backings.new }
+{
+    for (num, file) in files {
+        bring(backings, num, file);
+    }
+}
+
+/// Says of a file that is there whether its number is dead, and lets the file go where nothing names it.
 pub fn settle<F: Drop>(backings: &mut Vec<Backing<F>>, dead: &mut Vec<u64>, taken: &[u64], num: u64)
     requires rising { IsRising (λ b. b.num) backings.old.items }
     requires dead { IsFalling dead.old.items }
@@ -260,12 +283,69 @@ pub fn settle<F: Drop>(backings: &mut Vec<Backing<F>>, dead: &mut Vec<u64>, take
     ensures rising { IsRising (λ b. b.num) backings.new.items }
     ensures falling { IsFalling dead.new.items }
     ensures count { (b : ℕ) → count_in b backings.new.items ≡ count_in b backings.old.items }
+    ensures file { (b : ℕ) → file_in b backings.new.items ≡ (if b == num && count_in b backings.old.items == 0 then None else file_in b backings.old.items) }
+    ensures dead { (b : ℕ) → is_among b dead.new.items ≡ (if b == num && is_some (file_in b backings.old.items) then count_in b backings.old.items == 0 && not (is_among b taken.now) else is_among b dead.old.items) }
     ensures len { vec_len dead.new + vec_len backings.new ≤ vec_len dead.old + vec_len backings.old }
     ensures capacity { vec_capacity dead.old ≤ vec_capacity dead.new }
 {
     if let Ok(at) = find(backings, num) {
+        numbers::take_out(dead, num);
         if backings[at].count == 0 {
             let_go(backings, dead, taken, at);
         }
     }
+}
+
+/// Settles each of the numbers, which may be new.
+pub fn settle_all<F: Drop>(
+    backings: &mut Vec<Backing<F>>,
+    dead: &mut Vec<u64>,
+    taken: &[u64],
+    nums: &[u64],
+)
+    requires rising { IsRising (λ b. b.num) backings.old.items }
+    requires dead { IsFalling dead.old.items }
+    requires taken { IsFalling taken.now }
+    requires room { vec_len dead.old + vec_len backings.old ≤ vec_capacity dead.old }
+    ensures rising { IsRising (λ b. b.num) backings.new.items }
+    ensures falling { IsFalling dead.new.items }
+    ensures count { (b : ℕ) → count_in b backings.new.items ≡ count_in b backings.old.items }
+    ensures file { (b : ℕ) → file_in b backings.new.items ≡ (if is_among b nums.now && count_in b backings.old.items == 0 then None else file_in b backings.old.items) }
+    ensures dead { (b : ℕ) → is_among b dead.new.items ≡ (if is_among b nums.now && is_some (file_in b backings.old.items) then count_in b backings.old.items == 0 && not (is_among b taken.now) else is_among b dead.old.items) }
+    ensures len { vec_len dead.new + vec_len backings.new ≤ vec_len dead.old + vec_len backings.old }
+    ensures capacity { vec_capacity dead.old ≤ vec_capacity dead.new }
+{
+    for num in nums {
+        settle(backings, dead, taken, *num);
+    }
+}
+
+/// Brings the files, counts the tables of the version, and settles the numbers, which are those of the
+/// files. Takes no memory.
+pub fn add_version<F: Drop>(
+    backings: &mut Vec<Backing<F>>,
+    dead: &mut Vec<u64>,
+    taken: &[u64],
+    version: &Version,
+    nums: &[u64],
+    files: Vec<(u64, F)>,
+)
+    requires rising { IsRising (λ b. b.num) backings.old.items }
+    requires named { (b : ℕ) → 0 < named_by b version.now → IsSome (file_from files.items b (file_in b backings.old.items)) }
+    requires small { (b : ℕ) → count_in b backings.old.items + named_by b version.now < 2 ^ 64 }
+    requires dead { IsFalling dead.old.items }
+    requires taken { IsFalling taken.now }
+    requires room { vec_len backings.old + length files.items ≤ vec_capacity backings.old }
+    requires room_to_die { vec_len dead.old + (vec_len backings.old + length files.items) ≤ vec_capacity dead.old }
+    ensures rising { IsRising (λ b. b.num) backings.new.items }
+    ensures falling { IsFalling dead.new.items }
+    ensures count { (b : ℕ) → count_in b backings.new.items ≡ count_in b backings.old.items + named_by b version.now }
+    ensures file { (b : ℕ) → file_in b backings.new.items ≡ (if is_among b nums.now && count_in b backings.new.items == 0 then None else file_from files.items b (file_in b backings.old.items)) }
+    ensures dead { (b : ℕ) → is_among b dead.new.items ≡ (if is_among b nums.now && is_some (file_from files.items b (file_in b backings.old.items)) then count_in b backings.new.items == 0 && not (is_among b taken.now) else is_among b dead.old.items) }
+    ensures len { vec_len dead.new + vec_len backings.new ≤ vec_len dead.old + (vec_len backings.old + length files.items) }
+    ensures capacity { vec_capacity dead.old ≤ vec_capacity dead.new }
+{
+    bring_all(backings, files);
+    raise_version(backings, version);
+    settle_all(backings, dead, taken, nums);
 }

@@ -3,7 +3,7 @@ ghost use Rattle.std.specs.Prelude.{◌≡◌, ◌+◌, ◌≤◌, ◌<◌, ◌=
 ghost use Rattle.std.specs.Vec.{vec_capacity};
 ghost use Rattle.xdb_vset.specs.Numbers.{EndsAt};
 ghost use Rattle.xdb_vset.specs.Keyed.{IsRising};
-ghost use Rattle.xdb_vset.specs.Holds.{slot_of, is_held};
+ghost use Rattle.xdb_vset.specs.Holds.{slot_of, held_by};
 
 use std::marker::Model;
 
@@ -73,6 +73,7 @@ pub fn fill(slots: &mut Vec<Slot>, id: u64, version: u64)
     requires ticket { slot_of id slots.old.items ≡ Some None }
     ensures rising { IsRising (λ s. s.id) slots.new.items }
     ensures slot { (n : ℕ) → slot_of n slots.new.items ≡ (if n == id then Some (Some version) else slot_of n slots.old.items) }
+    ensures held { (v : ℕ) → held_by v slots.new.items ≡ held_by v slots.old.items + (if v == version then 1 else 0) }
 {
     if let Ok(at) = find(slots, id) {
         let slot = &mut slots[at];
@@ -85,20 +86,9 @@ pub fn empty(slots: &mut Vec<Slot>, id: u64)
     requires rising { IsRising (λ s. s.id) slots.old.items }
     ensures rising { IsRising (λ s. s.id) slots.new.items }
     ensures slot { (n : ℕ) → slot_of n slots.new.items ≡ (if n == id then None else slot_of n slots.old.items) }
+    ensures held { (version : ℕ) → slot_of id slots.old.items ≡ Some (Some version) → (v : ℕ) → held_by v slots.new.items + (if v == version then 1 else 0) ≡ held_by v slots.old.items }
 {
     if let Ok(at) = find(slots, id) {
         slots.remove(at);
     }
-}
-
-/// Whether some hold is of the version.
-pub fn is_held(slots: &[Slot], version: u64) -> bool
-    ensures { result ≡ is_held version slots.now }
-{
-    for slot in slots {
-        if slot.version == Some(version) {
-            return true;
-        }
-    }
-    false
 }

@@ -1,5 +1,5 @@
 //! Distinct numbers, the greatest first, so that the least is taken without moving the others.
-ghost use Rattle.std.specs.Prelude.{◌≡◌, ◌+◌, ◌≤◌, ◌<◌, ◌||◌, ◌&&◌, ◌==◌, not, ℕ, [], ◌∷◌, ◌++◌, vec_len};
+ghost use Rattle.std.specs.Prelude.{◌≡◌, ◌+◌, ◌≤◌, ◌<◌, ◌||◌, ◌&&◌, ◌==◌, not, ℕ, [], ◌∷◌, ◌++◌, length, vec_len};
 ghost use Rattle.std.specs.Vec.{vec_capacity};
 ghost use Rattle.xdb_vset.specs.Numbers.{is_among, IsFalling, EndsAt};
 
@@ -31,6 +31,20 @@ pub fn put(nums: &mut Vec<u64>, num: u64)
         let Ok(()) = nums.insert(at, num) else {
             unreachable!()
         };
+    }
+}
+
+/// Puts each of the numbers in. Takes no memory.
+pub fn put_all(nums: &mut Vec<u64>, more: &[u64])
+    requires falling { IsFalling nums.old.items }
+    requires room { vec_len nums.old + length more.now ≤ vec_capacity nums.old }
+    ensures among { (n : ℕ) → is_among n nums.new.items ≡ (is_among n more.now || is_among n nums.old.items) }
+    ensures falling { IsFalling nums.new.items }
+    ensures capacity { vec_capacity nums.old ≤ vec_capacity nums.new }
+    ensures len { vec_len nums.new ≤ vec_len nums.old + length more.now }
+{
+    for num in more {
+        put(nums, *num);
     }
 }
 

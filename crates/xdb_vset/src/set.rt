@@ -1,19 +1,24 @@
 ghost use Rattle.std.specs.Prelude.{◌≡◌, ◌+◌, ◌≤◌, ◌<◌, ◌==◌, ◌&&◌, ◌||◌, ◌++◌, ◌^◌, not, ℕ, List, [], ◌∷◌, Some, None, true, false, replicate, length, map, All, vec_len, MatchOption, IfOk, IfSome, OnOk, OnErr, IsTrue, is_some, option_copied, if◌then◌else◌};
 ghost use Rattle.std.specs.Vec.{vec_capacity};
-ghost use Rattle.xdb_edit.specs.Versions.{no_tables};
+ghost use Rattle.std.specs.List.{list_all};
+ghost use Rattle.xdb_edit.specs.Versions.{no_tables, edited, applies};
+ghost use Rattle.xdb_levels.specs.Applying.{names_below};
 ghost use Rattle.xdb_vset.specs.Counts.{named_by};
 ghost use Rattle.xdb_vset.specs.Hold.{hold};
 ghost use Rattle.xdb_vset.specs.Holds.{slot_of, is_held};
 ghost use Rattle.xdb_vset.specs.Numbers.{is_among};
-ghost use Rattle.xdb_vset.specs.Backings.{file_in};
+ghost use Rattle.xdb_vset.specs.Backings.{count_in, file_in, file_from};
+ghost use Rattle.xdb_vset.specs.Versions.{version_in};
+ghost use Rattle.xdb_vset.specs.Keyed.{IsRising};
 ghost use Rattle.xdb_vset.specs.Seen.{Seen, IsSet, seen, named, is_dead, is_taken, version_of};
 
 use crate::backings::{self, Backing};
 use crate::holds::{self, HoldId, HoldTicket, Slot};
 use crate::numbers;
-use crate::older::{self, Numbered};
+use crate::older::{self, InUse};
 use std::alloc::{AllocError, Global};
 use std::marker::Model;
+use xdb_edit::Edit;
 use xdb_levels::Version;
 
 /// The number of a file that no referenced version names. It can't be dropped: whoever removes the file
@@ -46,9 +51,9 @@ impl Dead {
 #[derive(Debug, Drop)]
 pub struct VersionSet<F> {
     alloc: Global,
-    current: Numbered,
+    current: InUse,
     /// Held, and no longer current; numbers rise.
-    older: Vec<Numbered>,
+    older: Vec<InUse>,
     /// Tickets and holds; numbers rise.
     slots: Vec<Slot>,
     /// What is named; numbers rise.
@@ -61,18 +66,21 @@ pub struct VersionSet<F> {
 }
 
 impl<F> Model for VersionSet<F> {
-    ghost use Rattle.std.specs.Prelude.{◌+◌, ◌≤◌, vec_len};
+    ghost use Rattle.std.specs.Prelude.{◌≡◌, ◌+◌, ◌≤◌, ℕ, map, vec_len};
     ghost use Rattle.std.specs.Vec.{vec_capacity};
+    ghost use Rattle.xdb_vset.specs.Holds.{held_by};
+    ghost use Rattle.xdb_vset.specs.Versions.{version_in, holds_of};
     ghost use Rattle.xdb_vset.specs.Seen.{Seen, IsSet, HasRoom, seen, spare_of};
 
     ghost Value = { Seen F };
 
-    ghost view = { λ s. seen s.current s.older.items s.slots.items s.backings.items s.known.items s.dead.items s.taken.items
+    ghost view = { λ s. seen (version_in s.current) (map version_in s.older.items) s.slots.items s.backings.items s.known.items s.dead.items s.taken.items
         (spare_of (vec_len s.known) (vec_capacity s.known) (vec_len s.dead) (vec_capacity s.dead) (vec_len s.taken) (vec_capacity s.taken) (vec_len s.backings)) s.next };
 
-    ghost invariant = { λ s. IsSet (seen s.current s.older.items s.slots.items s.backings.items s.known.items s.dead.items s.taken.items
+    ghost invariant = { λ s. IsSet (seen (version_in s.current) (map version_in s.older.items) s.slots.items s.backings.items s.known.items s.dead.items s.taken.items
         (spare_of (vec_len s.known) (vec_capacity s.known) (vec_len s.dead) (vec_capacity s.dead) (vec_len s.taken) (vec_capacity s.taken) (vec_len s.backings)) s.next)
-        × HasRoom (vec_len s.dead) (vec_capacity s.dead) (vec_len s.taken) (vec_capacity s.taken) (vec_len s.backings) };
+        × HasRoom (vec_len s.dead) (vec_capacity s.dead) (vec_len s.taken) (vec_capacity s.taken) (vec_len s.backings)
+        × ((v : ℕ) → holds_of v s.current s.older.items ≡ held_by v s.slots.items) };
 }
 
 impl<F> VersionSet<F> {
@@ -82,9 +90,10 @@ impl<F> VersionSet<F> {
     {
         VersionSet {
             alloc,
-            current: Numbered {
+            current: InUse {
                 num: 0,
                 levels: Version::new(alloc),
+                holds: 0,
             },
             older: Vec::new(alloc),
             slots: Vec::new(alloc),
@@ -129,6 +138,8 @@ impl<F> VersionSet<F> {
     /// Room for one hold.
     pub fn ticket(&mut self) -> Result<HoldTicket, AllocError>
         ensures ticket { IfOk result (λ t. t ≡ self.old.next) }
+        // The ticket is new.
+        ensures slot { IfOk result (λ t. (n : ℕ) → slot_of n self.new.slots ≡ (if n == t then Some None else slot_of n self.old.slots)) }
         ensures given { IfOk result (λ t. self.new ≡ record self.old { slots = self.old.slots ++ record { id = t; version = None } ∷ []; next = t + 1 }) }
         ensures err { OnErr result (self.new ≡ self.old) }
     {
@@ -151,6 +162,7 @@ impl<F> VersionSet<F> {
         let HoldTicket { id } = t;
         let version = self.current.num;
         holds::fill(&mut self.slots, id, version);
+        older::hold(&mut self.current, &mut self.older, version);
         HoldId { id, version }
     }
 
@@ -165,12 +177,14 @@ impl<F> VersionSet<F> {
         let HoldTicket { id } = t;
         let version = of.version;
         holds::fill(&mut self.slots, id, version);
+        older::hold(&mut self.current, &mut self.older, version);
         HoldId { id, version }
     }
 
     /// The count of every file that is named, by number.
     pub fn counts(&self) -> Result<Vec<(u64, u64)>, AllocError>
         ensures counts { IfOk result (λ v. v.items ≡ map (λ x. (x.num, named self.now x.num)) self.now.backings) }
+        ensures rising { IfOk result (λ v. IsRising (λ x. x.0) v.items) }
         // No other file is named.
         ensures all { (b : ℕ) → is_some (file_in b self.now.backings) ≡ not (named self.now b == 0) }
     {
@@ -192,6 +206,18 @@ impl<F> VersionSet<F> {
         reserve(&mut self.known, 0, 0, n)?;
         reserve(&mut self.dead, named, 0, n)?;
         reserve(&mut self.taken, named, dead, n)
+    }
+
+    /// How many more known numbers have room.
+    fn spare(&self) -> usize
+        ensures { result ≡ self.now.spare }
+    {
+        let named = self.backings.len();
+        let dead = self.dead.len();
+        let known = self.known.capacity() - self.known.len();
+        let dying = self.dead.capacity() - (dead + named);
+        let taken = self.taken.capacity() - (self.taken.len() + dead + named);
+        known.min(dying.min(taken))
     }
 
     /// The number is known from now on. Takes no memory.
@@ -253,6 +279,78 @@ impl<F> VersionSet<F> {
 }
 
 impl<F: Drop> VersionSet<F> {
+    /// The version after the edit, which nothing holds, where no number passes its type's end.
+    fn after(&self, edit: &Edit) -> Result<InUse, AllocError>
+        requires levels { IsTrue (names_below 7 edit.now) }
+        ensures version { IfOk result (λ v. version_in v ≡ record { num = self.now.current.num + 1; levels = edited self.now.current.levels edit.now }) }
+        ensures unheld { IfOk result (λ v. v.holds ≡ 0) }
+        ensures small { IfOk result (λ v. (b : ℕ) → count_in b self.now.backings + named_by b v.levels < 2 ^ 64) }
+    {
+        let Ok(levels) = self.current.levels.apply(edit) else {
+            return Err(AllocError);
+        };
+        let Some(num) = self.current.num.checked_add(1) else {
+            return Err(AllocError);
+        };
+        if !backings::can_raise(&self.backings, &levels) {
+            return Err(AllocError);
+        }
+        Ok(InUse {
+            num,
+            levels,
+            holds: 0,
+        })
+    }
+
+    /// Makes the version after the edit the current one, and the numbers of its new files known. The
+    /// version before it stays where it is held, and goes otherwise, with each file that only it named. A
+    /// new file that no table lies in goes at once, and its number is dead.
+    ///
+    /// Copies what stays of the version, and counts the tables of the new version and of the one that goes.
+    pub fn install(&mut self, edit: Edit, files: Vec<(u64, F)>) -> Result<(), AllocError>
+        requires levels { IsTrue (names_below 7 edit) }
+        requires applies { IsTrue (applies self.old.current.levels edit) }
+        // Each file that a table comes to lie in is named already, or is new.
+        requires backed { IsTrue (list_all (λ a. not (named self.old a.1.backing == 0) || is_among a.1.backing edit.new_backings) edit.added) }
+        requires files { map (λ f. f.0) files.items ≡ edit.new_backings }
+        ensures current { OnOk result (self.new.current ≡ record { num = self.old.current.num + 1; levels = edited self.old.current.levels edit }) }
+        // What is current or held is there, and nothing else.
+        ensures version { OnOk result ((v : ℕ) → version_of self.new v ≡ (if self.new.current.num == v then Some self.new.current.levels else (if is_held v self.old.slots then version_of self.old v else None))) }
+        ensures known { OnOk result ((n : ℕ) → is_among n self.new.known ≡ (is_among n edit.new_backings || is_among n self.old.known)) }
+        // A file stays as long as it is named, and a new one takes the place of the one before.
+        ensures file { OnOk result ((b : ℕ) → file_in b self.new.backings ≡ (if named self.new b == 0 then None else file_from files.items b (file_in b self.old.backings))) }
+        ensures rest { OnOk result (self.new ≡ record self.old { current = self.new.current; older = self.new.older; backings = self.new.backings; known = self.new.known; dead = self.new.dead; spare = self.new.spare }) }
+        ensures err { OnErr result (self.new ≡ record self.old { spare = self.new.spare }) }
+        ensures spare { self.old.spare ≤ self.new.spare }
+    {
+        let next = self.after(&edit)?;
+        let Some(room) = self.spare().checked_add(files.len()) else {
+            return Err(AllocError);
+        };
+        self.room(room)?;
+        self.backings.try_reserve(files.len())?;
+        self.older.try_reserve(1)?;
+        numbers::put_all(&mut self.known, edit.new_backings());
+        backings::add_version(
+            &mut self.backings,
+            &mut self.dead,
+            &self.taken,
+            &next.levels,
+            edit.new_backings(),
+            files,
+        );
+        let Some(gone) = older::follow(&mut self.current, &mut self.older, next) else {
+            return Ok(());
+        };
+        backings::lower_version(
+            &mut self.backings,
+            &mut self.dead,
+            &self.taken,
+            &gone.levels,
+        );
+        Ok(())
+    }
+
     /// Gives the hold back. Where it was the last one of a version that isn't current, the version goes,
     /// and so does each file that only it named. Takes no memory.
     pub fn release(&mut self, id: HoldId)
@@ -268,12 +366,16 @@ impl<F: Drop> VersionSet<F> {
         let HoldId { id, version } = id;
         holds::empty(&mut self.slots, id);
         if version == self.current.num {
-            return;
-        }
-        if holds::is_held(&self.slots, version) {
+            self.current.holds -= 1;
             return;
         }
         if let Ok(at) = older::find(&self.older, version) {
+            let left = self.older[at].holds - 1;
+            if left > 0 {
+                let kept = &mut self.older[at];
+                kept.holds = left;
+                return;
+            }
             let gone = self.older.remove(at);
             backings::lower_version(
                 &mut self.backings,

@@ -1,5 +1,5 @@
 -- A file in place of another, or one more that isn't named yet.
-use Rattle.std.proofs.Common.{◌≡◌, ◌∙◌, refl, sym, ap, subst}
+use Rattle.std.proofs.Common.{◌∙◌, refl, sym, ap, subst}
 use Rattle.xdb_vset.specs.Keyed.{IsRising}
 use Rattle.xdb_vset.specs.Backings.{count_in, file_in}
 use Rattle.xdb_vset.proofs.KeyLaws.{rising_insert}

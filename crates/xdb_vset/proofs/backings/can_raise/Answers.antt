@@ -1,25 +1,20 @@
--- A count and what is named once more fit together.
-use Rattle.std.proofs.Common.{◌≡◌, ◌≤◌, ◌<◌, ◌+◌, ◌-◌, ◌^◌, length, eqb, ap, arith}
-use Rattle.std.proofs.lemmas.List.Sums.{count_by-le-length}
-use Rattle.xdb_meta.specs.Table.{Table}
-use Rattle.xdb_vset.specs.Counts.{named_in, named_by}
-use Rattle.xdb_vset.specs.Backings.{count_in}
-use Rattle.xdb_vset.proofs.VersionLaws.{named_more}
-use Rattle.xdb_vset.proofs.BackingLaws.{count_bound}
+-- No count and number of tables pass the greatest number together.
+use Rattle.std.proofs.Common.{◌≡◌, ◌+◌, ◌^◌, ◌∙◌, ℕ, List, true, ltb, sym, ap₂, arith}
+use Rattle.std.specs.List.{list_all}
+use Rattle.std.proofs.lemmas.List.{take_all}
+use Rattle.xdb_vset.specs.declared.backings.Backing.{Backing}
+use Rattle.xdb_vset.specs.Counts.{table_count}
+use Rattle.xdb_vset.proofs.VersionLaws.{named_few, told_count}
+use Rattle.xdb_vset.proofs.BackingLaws.{count_small}
 use Rattle.xdb_vset.proofs.backings.can_raise.Goals as goal
 
-pub loop-level-preserved : goal.loop-level-preserved
-loop-level-preserved g c = λ b.
-    let more = named_more b c.args.version.now c.loop-level.level (omega arith) in
-    let here = ap (named_in b) c.tables.ensures.tables in
-    let few : named_in b c.tables.result.now ≤ length c.tables.result.now = count_by-le-length (λ (t : Table). eqb b t.backing) c.tables.result.now in
-    let before = c.loop-level.invariant b in
-    let sum = c.in-Some.ensures.1 in
-    omega arith
-
-pub returns : goal.returns
-returns g c = λ yes' b.
-    let fits' = c.loop-level.auto.total-fits in
-    let low : count_in b c.args.backings.now ≤ 18446744073709551615 - c.loop-level.total = count_bound c.args.backings.now (18446744073709551615 - c.loop-level.total) b (λ k d l. let h = c.loop-backing.invariant.low k d (omega arith) in omega arith) in
-    let whole = c.loop-backing.invariant.whole b in
+pub returns-clause-small : goal.returns-clause-small
+returns-clause-small g c = λ yes' b.
+    let bs = c.args.backings.now in
+    let few = named_few b c.args.version.now in
+    let total = table_count c.args.version.now in
+    let told = told_count c.in-Some.total total (2 ^ 64) c.in-Some.ensures in
+    let whole = take_all c.loop-backing.backing-index bs c.loop-backing-test.false in
+    let all : list_all (λ x. ltb (x.count + total) (2 ^ 64)) bs ≡ true = sym (ap₂ (λ (n : ℕ) (ys : List (Backing g.row.F.Denot)). list_all (λ x. ltb (x.count + n) (2 ^ 64)) ys) told.0 whole) ∙ c.loop-backing.invariant in
+    let low = count_small bs total (2 ^ 64) b told.1 all in
     omega arith

@@ -1,5 +1,5 @@
 -- One less, or none left.
-use Rattle.std.proofs.Common.{◌≡◌, ◌≤◌, ◌∙◌, ap, arith}
+use Rattle.std.proofs.Common.{◌≡◌, ◌∙◌, ap, arith}
 use Rattle.xdb_vset.specs.Backings.{count_in}
 use Rattle.xdb_vset.proofs.BackingLaws.{count_found, count_missing, less_count, less_files, less_dead, last_count, last_files, last_dead, last_rising}
 use Rattle.xdb_vset.proofs.backings.lower.Goals as goal

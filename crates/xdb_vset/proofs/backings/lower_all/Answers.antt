@@ -1,10 +1,9 @@
 -- One table more.
-use Rattle.std.proofs.Common.{◌≡◌, ◌+◌, ◌<◌, ◌≤◌, ℕ, cond, eqb, get_or, take, ◌∙◌, sym, ap, arith}
+use Rattle.std.proofs.Common.{◌≡◌, ◌+◌, ◌≤◌, ℕ, cond, eqb, get_or, take, ◌∙◌, sym, ap, arith}
 use Rattle.std.proofs.lemmas.Bool.{eq-eqb, cond-true}
 use Rattle.std.proofs.lemmas.List.Sums.{sum_by_more, sum_by_more_le}
 use Rattle.xdb_meta.specs.Table.{Table}
 use Rattle.xdb_vset.specs.Counts.{named_in}
-use Rattle.xdb_vset.specs.Backings.{count_in}
 use Rattle.xdb_vset.proofs.backings.lower_all.Goals as goal
 
 pub loop-table-preserved : goal.loop-table-preserved

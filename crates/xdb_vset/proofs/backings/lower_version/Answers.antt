@@ -1,7 +1,6 @@
 -- One level more.
-use Rattle.std.proofs.Common.{◌≡◌, ◌<◌, ◌≤◌, ◌+◌, ◌∙◌, ℕ, length, sym, ap, arith}
-use Rattle.xdb_vset.specs.Counts.{named_in, named_by}
-use Rattle.xdb_vset.specs.Backings.{count_in}
+use Rattle.std.proofs.Common.{ap, arith}
+use Rattle.xdb_vset.specs.Counts.{named_in}
 use Rattle.xdb_vset.proofs.VersionLaws.{named_more, named_more_le, named_whole}
 use Rattle.xdb_vset.proofs.backings.lower_version.Goals as goal
 

@@ -1,5 +1,5 @@
 -- The count at the place is one more, and the others stay.
-use Rattle.std.proofs.Common.{◌≡◌, ◌+◌, ◌∙◌, Some, get_or, sym, arith}
+use Rattle.std.proofs.Common.{◌+◌, ◌∙◌, Some, get_or, arith}
 use Rattle.xdb_vset.specs.Backings.{count_in, file_in}
 use Rattle.xdb_vset.proofs.BackingLaws.{count_found, file_found, set_count, set_file, one_more, same_choice, never_missing}
 use Rattle.xdb_vset.proofs.backings.raise.Goals as goal

@@ -1,9 +1,9 @@
 -- One level more.
-use Rattle.std.proofs.Common.{◌≡◌, ◌<◌, ◌≤◌, ◌+◌, ◌∙◌, ℕ, length, subst, sym, ap, arith}
+use Rattle.std.proofs.Common.{◌+◌, ◌∙◌, ℕ, subst, sym, ap, arith}
 use Rattle.std.specs.Option.{IsSome}
-use Rattle.xdb_vset.specs.Counts.{named_in, named_by}
+use Rattle.xdb_vset.specs.Counts.{named_in}
 use Rattle.xdb_vset.specs.Backings.{count_in}
-use Rattle.xdb_vset.proofs.VersionLaws.{named_more, named_more_le, named_whole}
+use Rattle.xdb_vset.proofs.VersionLaws.{named_more_le, named_whole}
 use Rattle.xdb_vset.proofs.backings.raise_version.Goals as goal
 
 pub raise_all-requires-clause-named : goal.raise_all-requires-clause-named

@@ -1,5 +1,5 @@
 -- The least dead number is taken.
-use Rattle.std.proofs.Common.{◌≡◌, ◌≤◌, ℕ, IsTrue, sym, subst, ◌∙◌, arith}
+use Rattle.std.proofs.Common.{◌≤◌, ℕ, IsTrue, sym, subst, ◌∙◌, arith}
 use Rattle.xdb_vset.specs.Seen.{Seen, is_dead}
 use Rattle.xdb_vset.proofs.NumberLaws.{least, among_last}
 use Rattle.xdb_vset.proofs.SetLaws.{dead_is, set_taken}
@@ -12,6 +12,7 @@ invariant_of-self g c =
     let more = c.put.ensures.len in (
       set_taken _ c.take_least-num.new.nums.items c.put.new.nums.items _ c.take_least-num.result c.self.invariant.0 c.take_least-num.ensures.least c.take_least-num.ensures.falling c.put.ensures.falling c.put.ensures.among,
       record { to_die = omega arith; to_be_taken = omega arith },
+      c.self.invariant.2,
     )
 
 pub returns-clause-least : goal.returns-clause-least
