@@ -16,7 +16,7 @@ use Rattle.xdb_table_w.specs.declared.seqs.Seqs.{Seqs}
 use Rattle.std.specs.Option.{option_map}
 use Rattle.xdb_table_w.specs.Content.{content, last_of}
 use Rattle.xdb_table_w.specs.Extents.{user, end, numbers, IsExtent, Spread, both, lesser, greater, hull_end}
-use Rattle.xdb_table_w.specs.Files.{AreCut, joined, part, index_from, index, table_bytes, IsTable}
+use Rattle.xdb_table_w.specs.Files.{AreCut, joined, len_of, part, index_from, index, table_bytes, IsTable}
 use Rattle.xdb_table_w.specs.Halves.{rows_in, points_in, first_of, IsPointBlock, HasEnded, ArePoints, AreSpans, IsHalf, closed, IsReady}
 use Rattle.xdb_table_w.proofs.CutLaws.{all_cut, last_cut, open_rows}
 use Rattle.xdb_table_w.proofs.FollowLaws.{blocks_follow, last_point, joined-cons}
@@ -81,17 +81,20 @@ close_all blocks block spans first last lo hi point_seqs span_seqs all k some is
 
 pub is_table : (blocks : List Draft) (spans : Draft) (first : Option (List ℕ)) (last : List ℕ) (lo hi : Option (List ℕ)) (point_seqs span_seqs : Option Seqs) (points : List Row) (bytes : List ℕ) → Closed blocks spans first last lo hi point_seqs span_seqs points
     → bytes ≡ table_bytes 16 (rows_in blocks) spans.rows → All (λ d. IsBlock 16 Point d.rows) blocks → (1 ≤ length blocks → IsBlock 16 Index (index 16 (rows_in blocks))) → (AreRows Spans spans.rows → IsBlock 16 Spans spans.rows)
-    → IsTable 16 bytes (content points spans.rows)
-is_table blocks spans first last lo hi point_seqs span_seqs points bytes c spelled each index_is spans_is =
+    → len_of 16 spans.rows < 2 ^ 32 → len_of 16 (index 16 (rows_in blocks)) < 2 ^ 32 → IsTable 16 bytes (content points spans.rows)
+is_table blocks spans first last lo hi point_seqs span_seqs points bytes c spelled each index_is spans_is spans_len index_len =
     let r = c.ready in
     let count = length-map blocks (λ (d : Draft). d.rows) in
     record {
       blocks = rows_in blocks;
       is_joined = c.is;
+      order = subst (Follow Point None) c.is r.points.follow;
       cut = r.cut;
       points = recursion_from_All (IsBlock 16 Point) (rows_in blocks) (All-map (IsBlock 16 Point) (λ (d : Draft). d.rows) blocks each);
       index_block = λ some. index_is (omega arith);
       spans = λ some. spans_is (some, r.ranges.follow);
+      spans_len = spans_len;
+      index_len = index_len;
       some = subst (λ (ps : List Row). 1 ≤ length ps + length spans.rows) c.is r.some;
       spelled = spelled;
     }

@@ -1,12 +1,12 @@
 -- The spelling of a table file: point blocks, the block of spans if there are any, the index if there are
 -- points, and a footer. Each block is followed by one type byte, 0.
-use Rattle.std.specs.Prelude.{◌≡◌, ℕ, ◌+◌, ◌-◌, ◌<◌, ◌≤◌, List, [], ◌∷◌, ◌++◌, length, take}
+use Rattle.std.specs.Prelude.{◌≡◌, ℕ, ◌+◌, ◌-◌, ◌^◌, ◌<◌, ◌≤◌, List, [], ◌∷◌, ◌++◌, length, take, None}
 use Rattle.std.specs.List.{flat_map, AllByRecursion}
 use Rattle.byteorder.specs.Endian.{little_bytes}
 use Rattle.xdb_key.specs.Varint.{varint}
 use Rattle.xdb_block.specs.declared.kind.BlockKind.TheVariants as kinds
 use Rattle.xdb_block.specs.Kept.{last_key}
-use Rattle.xdb_block.specs.Rows.{Row, row}
+use Rattle.xdb_block.specs.Rows.{Row, row, Follow}
 use Rattle.xdb_block.specs.Spelling.{entries, block_bytes, IsBlock}
 use Rattle.xdb_table_w.specs.Content.{Content}
 
@@ -91,13 +91,17 @@ table_bytes interval blocks spans =
     parts interval blocks ++ part_of interval spans ++ part_of interval rows
     ++ footer (place_of at spans) (len_of interval spans) (place_of index_at rows) (len_of interval rows)
 
--- The bytes are a table file of the content: each block is one of its kind, and the point blocks end where they have to.
+-- The bytes are a table file of the content: each block is one of its kind, the points of all blocks stand in order, and
+-- the point blocks end where they have to. The lengths in the footer have 4 bytes.
 pub record IsTable (interval : ℕ) (bytes : List ℕ) (c : Content) : Type 0 where
   pub blocks : List (List Row)
   pub is_joined : joined blocks ≡ c.points
+  pub order : Follow kinds.Point None c.points
   pub cut : AreCut interval blocks
   pub points : AllByRecursion (IsBlock interval kinds.Point) blocks
   pub index_block : 1 ≤ length blocks → IsBlock interval kinds.Index (index interval blocks)
   pub spans : 1 ≤ length c.spans → IsBlock interval kinds.Spans c.spans
+  pub spans_len : len_of interval c.spans < 2 ^ 32
+  pub index_len : len_of interval (index interval blocks) < 2 ^ 32
   pub some : 1 ≤ length c.points + length c.spans
   pub spelled : bytes ≡ table_bytes interval blocks c.spans

@@ -41,6 +41,8 @@ pub fn write_table(
     ensures points { OnOk result (All (λ d. IsBlock 16 BlockKind.Point d.rows) blocks.now) }
     ensures index { 1 ≤ length blocks.now → OnOk result (IsBlock 16 BlockKind.Index (index 16 (rows_in blocks.now))) }
     ensures spans { AreRows BlockKind.Spans spans.now.rows → OnOk result (IsBlock 16 BlockKind.Spans spans.now.rows) }
+    ensures spans_len { OnOk result (len_of 16 spans.now.rows < 2 ^ 32) }
+    ensures index_len { OnOk result (len_of 16 (index 16 (rows_in blocks.now)) < 2 ^ 32) }
     ensures short { IfOk result (λ x. length x.0.items < 2 ^ 56) }
 {
     let mut out = Vec::new(alloc);

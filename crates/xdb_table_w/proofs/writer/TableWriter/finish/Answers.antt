@@ -1,4 +1,4 @@
-use Rattle.std.proofs.Common.{◌∙◌, ◌+◌, ◌≤◌, List, All, [], ap, sym, subst, length}
+use Rattle.std.proofs.Common.{◌∙◌, ◌+◌, ◌^◌, ◌<◌, ◌≤◌, List, All, [], ap, sym, subst, length}
 use Rattle.xdb_key.specs.Bounds.{bounds}
 use Rattle.xdb_key.specs.Entries.{Reach, reach}
 use Rattle.xdb_key.specs.Limits.{IsKey}
@@ -8,7 +8,7 @@ use Rattle.xdb_block.specs.Rows.{user_part}
 use Rattle.xdb_block.specs.Spelling.{IsBlock}
 use Rattle.xdb_table_w.specs.Content.{Content}
 use Rattle.xdb_table_w.specs.Extents.{IsExtent, lesser, greater, hull_end}
-use Rattle.xdb_table_w.specs.Files.{index, table_bytes, IsTable}
+use Rattle.xdb_table_w.specs.Files.{len_of, index, table_bytes, IsTable}
 use Rattle.xdb_table_w.specs.Halves.{rows_in, points_in, IsPointBlock}
 use Rattle.xdb_table_w.proofs.ReadyLaws.{close_all, is_table, index_key, hull_of_index, spread_of, seqs_some, ranged}
 use Rattle.xdb_table_w.proofs.writer.TableWriter.finish.Goals as goal
@@ -94,7 +94,7 @@ returns-clause-table c =
     let each = subst (λ (bs : List Draft). All (λ d. IsBlock 16 Point d.rows) bs) at e.points in
     let listed = subst (λ (bs : List Draft). 1 ≤ length bs → IsBlock 16 Index (index 16 (rows_in bs))) at e.index in
     subst (IsTable 16 c.in_ok-bytes.bytes.items) c.self.view_is
-    (is_table blocks w.spans w.first w.last.items w.lo w.hi w.point_seqs w.span_seqs points c.in_ok-bytes.bytes.items k spelled each listed e.spans)
+    (is_table blocks w.spans w.first w.last.items w.lo w.hi w.point_seqs w.span_seqs points c.in_ok-bytes.bytes.items k spelled each listed e.spans e.spans_len (subst (λ (bs : List Draft). len_of 16 (index 16 (rows_in bs)) < 2 ^ 32) at e.index_len))
 
 pub returns-clause-extent : goal.returns-clause-extent
 returns-clause-extent c =

@@ -1,0 +1,13 @@
+pub mod Lists
+pub mod TellLaws
+pub mod OpeningLaws
+pub mod RowLaws
+pub mod SpanLaws
+pub mod PointLaws
+pub mod SeenLaws
+pub mod GoneLaws
+pub mod PlaceLaws
+pub mod ReachLaws
+pub mod ClipLaws
+pub mod AgainLaws
+pub mod FooterLaws

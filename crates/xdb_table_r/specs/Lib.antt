@@ -1,0 +1,8 @@
+pub mod Fault
+pub mod Parts
+pub mod Opening
+pub mod Points
+pub mod Tables
+pub mod Views
+pub mod Cursors
+pub mod Reaches
