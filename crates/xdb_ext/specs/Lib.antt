@@ -1,0 +1,5 @@
+pub mod Operations
+pub mod TableBounds
+pub mod Refusing
+pub mod Work
+pub mod Loads
