@@ -26,10 +26,14 @@ use Rattle.xdb_script.proofs.Words.{ok_is, passed, found_tells, same-tells, numb
 use Rattle.xdb_script.proofs.Parts.{pair_words, pair-is, set-is, del-is, span-is, values-fit, has_count, ops-is}
 use Rattle.xdb_script.proofs.Questions.{at-is, some-name-is, question-is}
 use Rattle.xdb_script.specs.Fields.{same_word, name_read, number_read, all_read, some_read}
-use Rattle.xdb_script.specs.Reading.{pair_read, set_read, del_read, span_read, op_read, ops_shape, at_shape, question_read, found_or, found_read, begin_read, commit_read, batch_read, named_read, numbered_read, pairs_shape, few_shape, snap_read, cursor_read, is_excise, up_to_excise, excise_shape, load_read, client_read, alone_read, which_read, show_read, db_read, table_read}
+use Rattle.xdb_script.specs.Reading.{pair_read, set_read, del_read, span_read, op_read, ops_shape, at_shape, question_read, found_or, found_read, begin_read, commit_read, batch_read, named_read, numbered_read, pairs_shape, few_shape, snap_read, cursor_read, is_excise, up_to_excise, excise_shape, load_read, client_read, alone_read, which_shape, which_made, which_read, show_read, db_read, table_read}
 use Rattle.xdb_script.specs.Rules.{has_bounds, op_fits, span_fits, which_fits, fits, tables_stand, points_rise, is_sound}
-use Rattle.xdb_script.specs.Verbs.{ClientVerb, DbVerb, read_word, client_word, db_word, read_verbs, is_parted}
-use Rattle.xdb_script.specs.Verbs as verb
+use Rattle.xdb_script.specs.Verbs.{read_word, client_word, db_word, read_verbs, is_parted}
+use Rattle.xdb_script.specs.declared.verbs.ClientVerb.{ClientVerb}
+use Rattle.xdb_script.specs.declared.verbs.ReadVerb.{ReadVerb}
+use Rattle.xdb_script.specs.declared.verbs.DbVerb.{DbVerb}
+use Rattle.xdb_script.specs.declared.verbs.ClientVerb.TheVariants as says
+use Rattle.xdb_script.specs.declared.verbs.DbVerb.TheVariants as owns
 use Rattle.xdb_script.specs.declared.error.Why.{Why}
 use Rattle.xdb_script.specs.declared.error.Why.TheVariants as why
 
@@ -151,7 +155,7 @@ batch-is by h words c e =
 
 -- ---- questions
 
-read-is : (by : Option By) → by_client by ≡ true → (v : verb.ReadVerb) (words : List (List ℕ)) (c : Cmd) → client_read (verb.read v) words ≡ Ok c → ReadsCmd by false (read_word v ∷ words) c
+read-is : (by : Option By) → by_client by ≡ true → (v : ReadVerb) (words : List (List ℕ)) (c : Cmd) → client_read (says.Read v) words ≡ Ok c → ReadsCmd by false (read_word v ∷ words) c
 read-is by h v words c e =
     let a = bind_ok (question_read v words) (λ q. Ok (cmd.Ask q false)) e in
     let q = question-is v words a.0 a.1 in
@@ -316,21 +320,21 @@ load-is by h (w ∷ words) c e =
 -- ---- what a client says
 
 pub client-is : (by : Option By) → by_client by ≡ true → (v : ClientVerb) (words : List (List ℕ)) (c : Cmd) → client_read v words ≡ Ok c → ReadsCmd by (is_parted v) (client_word v ∷ words) c
-client-is by h verb.put words c e = put-is by h words c e
-client-is by h verb.del words c e = del-is-read by h words c e
-client-is by h verb.delspan words c e = delspan-is by h words c e
-client-is by h verb.batch words c e = batch-is by h words c e
-client-is by h (verb.read v) words c e = read-is by h v words c e
-client-is by h verb.begin words c e = begin-is by h words c e
-client-is by h verb.settle words c e = numbered-is by true (codes "settle") (λ n. cmd.Settle n) (λ n. refl) (λ n. refl) (λ n. refl) (λ tables n job. and_from (by_client by) _ h job) (λ x n. absurd (true≢false x)) words c e
-client-is by h verb.snap words c e = snap-is by h words c e
-client-is by h verb.drop_snap words c e = named-is by (codes "drop") (λ n. cmd.Drop n) (λ n. refl) (λ n k. k) (λ n. refl) (λ tables n. h) (λ n. refl) words c e
-client-is by h verb.status words c e = named-is by (codes "status") (λ n. cmd.Status n status.Status) (λ n. refl) (λ n k. k) (λ n. refl) (λ tables n. h) (λ n. refl) words c e
-client-is by h verb.await words c e = named-is by (codes "await") (λ n. cmd.Status n status.Await) (λ n. refl) (λ n k. k) (λ n. refl) (λ tables n. h) (λ n. refl) words c e
-client-is by h verb.cursor words c e = cursor-is by h words c e
-client-is by h verb.shut words c e = named-is by (codes "shut") (λ n. cmd.Shut n) (λ n. refl) (λ n k. k) (λ n. refl) (λ tables n. h) (λ n. refl) words c e
-client-is by h verb.load words c e = load-is by h words c e
-client-is by h verb.install words c e = named-is by (codes "install") (λ n. cmd.Install n) (λ n. refl) (λ n k. k) (λ n. refl) (λ tables n. h) (λ n. refl) words c e
+client-is by h says.Put words c e = put-is by h words c e
+client-is by h says.Del words c e = del-is-read by h words c e
+client-is by h says.DelSpan words c e = delspan-is by h words c e
+client-is by h says.Batch words c e = batch-is by h words c e
+client-is by h (says.Read v) words c e = read-is by h v words c e
+client-is by h says.Begin words c e = begin-is by h words c e
+client-is by h says.Settle words c e = numbered-is by true (codes "settle") (λ n. cmd.Settle n) (λ n. refl) (λ n. refl) (λ n. refl) (λ tables n job. and_from (by_client by) _ h job) (λ x n. absurd (true≢false x)) words c e
+client-is by h says.Snap words c e = snap-is by h words c e
+client-is by h says.Drop words c e = named-is by (codes "drop") (λ n. cmd.Drop n) (λ n. refl) (λ n k. k) (λ n. refl) (λ tables n. h) (λ n. refl) words c e
+client-is by h says.Status words c e = named-is by (codes "status") (λ n. cmd.Status n status.Status) (λ n. refl) (λ n k. k) (λ n. refl) (λ tables n. h) (λ n. refl) words c e
+client-is by h says.Await words c e = named-is by (codes "await") (λ n. cmd.Status n status.Await) (λ n. refl) (λ n k. k) (λ n. refl) (λ tables n. h) (λ n. refl) words c e
+client-is by h says.Cursor words c e = cursor-is by h words c e
+client-is by h says.Shut words c e = named-is by (codes "shut") (λ n. cmd.Shut n) (λ n. refl) (λ n k. k) (λ n. refl) (λ tables n. h) (λ n. refl) words c e
+client-is by h says.Load words c e = load-is by h words c e
+client-is by h says.Install words c e = named-is by (codes "install") (λ n. cmd.Install n) (λ n. refl) (λ n k. k) (λ n. refl) (λ tables n. h) (λ n. refl) words c e
 
 -- ---- what the owner says
 
@@ -344,8 +348,10 @@ which-is by v make auto at limit sound suited workers [] c e = cc
 which-is by v make auto at limit sound suited workers (w ∷ lo ∷ []) c e = cc
 which-is by v make auto at limit sound suited workers (w ∷ lo ∷ hi ∷ x ∷ words) c e = cc
 which-is by v make auto at limit sound suited workers (w ∷ []) c e =
-    let a = passed (same_word w (codes "auto")) (Ok (make Auto)) why.Shape e in
-    subst (λ x. ReadsCmd by false (v ∷ w ∷ []) x) (ok_is (make Auto) c a.1) (record {
+    let s = bind_ok (which_shape (w ∷ [])) (λ which. which_made make which) e in
+    let a = passed (same_word w (codes "auto")) (Ok None) why.Shape s.1 in
+    let none : None ≡ s.0 = ok_is None s.0 a.1 in
+    subst (λ x. ReadsCmd by false (v ∷ w ∷ []) x) (ok_is (make Auto) c (ap (which_made make) none ∙ s.2)) (record {
       is = ap (λ x. v ∷ x ∷ []) (same-tells w (codes "auto") a.0) ∙ auto;
       limits = limit Auto refl;
       sound = λ h. sound Auto;
@@ -383,16 +389,16 @@ show-is by h (w ∷ []) c e = elim (chosen (same_word w (codes "levels")) (Ok (c
 ]
 
 pub db-is : (by : Option By) → by_db by ≡ true → (v : DbVerb) (words : List (List ℕ)) (c : Cmd) → db_read v words ≡ Ok c → ReadsCmd by false (db_word v ∷ words) c
-db-is by h verb.seal words c e = alone-is by (codes "seal") cmd.Seal refl refl refl (λ tables. h) refl words c e
-db-is by h verb.flush_take words c e = alone-is by (codes "flush-take") cmd.FlushTake refl refl refl (λ tables. h) refl words c e
-db-is by h verb.put_job words c e = numbered-is by false (codes "put") (λ n. cmd.Put n) (λ n. refl) (λ n. refl) (λ n. refl) (λ tables n job. and_from (by_db by) _ h job) (λ x n. refl) words c e
-db-is by h verb.compact_take words c e = which-is by (codes "compact-take") (λ w. cmd.CompactTake w) refl (λ l r. refl) (λ w k. k) (λ w. refl) (λ tables w k. and_from (by_db by) _ h k) (λ w. refl) words c e
-db-is by h verb.build words c e = numbered-is by false (codes "build") (λ n. cmd.Build n) (λ n. refl) (λ n. refl) (λ n. refl) (λ tables n job. and_from (by_db by) _ h job) (λ x n. refl) words c e
-db-is by h verb.work words c e = numbered-is by false (codes "work") (λ n. cmd.Work n) (λ n. refl) (λ n. refl) (λ n. refl) (λ tables n job. and_from (by_db by) _ h job) (λ x n. refl) words c e
-db-is by h verb.flush words c e = alone-is by (codes "flush") cmd.Flush refl refl refl (λ tables. h) refl words c e
-db-is by h verb.compact words c e = which-is by (codes "compact") (λ w. cmd.Compact w) refl (λ l r. refl) (λ w k. k) (λ w. refl) (λ tables w k. and_from (by_db by) _ h k) (λ w. refl) words c e
-db-is by h verb.reap words c e = alone-is by (codes "reap") cmd.Reap refl refl refl (λ tables. h) refl words c e
-db-is by h verb.show words c e = show-is by h words c e
+db-is by h owns.Seal words c e = alone-is by (codes "seal") cmd.Seal refl refl refl (λ tables. h) refl words c e
+db-is by h owns.FlushTake words c e = alone-is by (codes "flush-take") cmd.FlushTake refl refl refl (λ tables. h) refl words c e
+db-is by h owns.Put words c e = numbered-is by false (codes "put") (λ n. cmd.Put n) (λ n. refl) (λ n. refl) (λ n. refl) (λ tables n job. and_from (by_db by) _ h job) (λ x n. refl) words c e
+db-is by h owns.CompactTake words c e = which-is by (codes "compact-take") (λ w. cmd.CompactTake w) refl (λ l r. refl) (λ w k. k) (λ w. refl) (λ tables w k. and_from (by_db by) _ h k) (λ w. refl) words c e
+db-is by h owns.Build words c e = numbered-is by false (codes "build") (λ n. cmd.Build n) (λ n. refl) (λ n. refl) (λ n. refl) (λ tables n job. and_from (by_db by) _ h job) (λ x n. refl) words c e
+db-is by h owns.Work words c e = numbered-is by false (codes "work") (λ n. cmd.Work n) (λ n. refl) (λ n. refl) (λ n. refl) (λ tables n job. and_from (by_db by) _ h job) (λ x n. refl) words c e
+db-is by h owns.Flush words c e = alone-is by (codes "flush") cmd.Flush refl refl refl (λ tables. h) refl words c e
+db-is by h owns.Compact words c e = which-is by (codes "compact") (λ w. cmd.Compact w) refl (λ l r. refl) (λ w k. k) (λ w. refl) (λ tables w k. and_from (by_db by) _ h k) (λ w. refl) words c e
+db-is by h owns.Reap words c e = alone-is by (codes "reap") cmd.Reap refl refl refl (λ tables. h) refl words c e
+db-is by h owns.Show words c e = show-is by h words c e
 
 -- ---- tables
 

@@ -7,3 +7,12 @@ pub mod Lines
 pub mod Scripts
 pub mod Lengths
 pub mod Spaces
+pub mod Spelling
+pub mod Each
+pub mod Decimals
+pub mod Shapes
+pub mod Risings
+pub mod Ranged
+pub mod Excise
+pub mod Named
+pub mod Taking

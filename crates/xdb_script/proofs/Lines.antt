@@ -37,7 +37,8 @@ use Rattle.xdb_script.specs.Fields.{same_word, number_read}
 use Rattle.xdb_script.specs.Grammar.{most_bytes, words_in, IsLine, suits_script}
 use Rattle.xdb_script.specs.Reading.{found_or, found_client, found_db, client_read, db_read, client_numbered, client_of, db_in, who_read, client_line, db_line, cmd_read, rules_read, is_clean, line_of, line_read}
 use Rattle.xdb_script.specs.Rules.{is_string, is_key, is_bound, is_value, are_bytes, has_length, has_bounds, op_fits, at_fits, step_fits, question_fits, span_fits, fits, ranges_rise, tables_stand, points_rise, is_sound}
-use Rattle.xdb_script.specs.Verbs.{ClientVerb, client_word, db_word, client_verbs, db_verbs, is_parted, is_run, is_verb_in}
+use Rattle.xdb_script.specs.Verbs.{client_word, db_word, client_verbs, db_verbs, is_parted, is_run, is_verb_in}
+use Rattle.xdb_script.specs.declared.verbs.ClientVerb.{ClientVerb}
 use Rattle.xdb_script.specs.declared.error.Why.{Why}
 use Rattle.xdb_script.specs.declared.error.Why.TheVariants as why
 use Rattle.xdb_script.specs.declared.form.ScriptForm.{ScriptForm}

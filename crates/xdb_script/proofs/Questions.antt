@@ -18,8 +18,9 @@ use Rattle.xdb_script.proofs.Parts.{pair_words, pair-is, pair-again}
 use Rattle.xdb_script.specs.Fields.{same_word, key_read, name_read, number_read, some_read}
 use Rattle.xdb_script.specs.Reading.{pair_read, at_shape, get_read, scan_read, move_read, seek_read, question_read}
 use Rattle.xdb_script.specs.Rules.{is_key, has_bounds, at_fits, step_fits, question_fits}
-use Rattle.xdb_script.specs.Verbs.{ReadVerb, read_word}
-use Rattle.xdb_script.specs.Verbs as verb
+use Rattle.xdb_script.specs.Verbs.{read_word}
+use Rattle.xdb_script.specs.declared.verbs.ReadVerb.{ReadVerb}
+use Rattle.xdb_script.specs.declared.verbs.ReadVerb.TheVariants as reads
 use Rattle.xdb_script.specs.declared.error.Why.TheVariants as why
 
 -- ---- `at` and a snapshot
@@ -156,15 +157,15 @@ seek-again make cursor key n k =
 -- ---- questions
 
 pub question-is : (v : ReadVerb) (words : List (List ℕ)) (q : Question) → question_read v words ≡ Ok q → ReadsQuestion (read_word v) words q
-question-is verb.get words q e = get-is words q e
-question-is verb.scan words q e = scan-reads words q (scan-is (λ r n a. Scan r n a) words q e)
-question-is verb.rscan words q e = rscan-reads words q (scan-is (λ r n a. RScan r n a) words q e)
-question-is verb.first words q e = move-is (codes "first") First (λ c. refl) refl words q e
-question-is verb.last words q e = move-is (codes "last") Last (λ c. refl) refl words q e
-question-is verb.next words q e = move-is (codes "next") Next (λ c. refl) refl words q e
-question-is verb.prev words q e = move-is (codes "prev") Prev (λ c. refl) refl words q e
-question-is verb.seek words q e = seek-is (codes "seek") (λ k. Seek k) (λ c k. refl) (λ k h. h) words q e
-question-is verb.seeklt words q e = seek-is (codes "seeklt") (λ k. SeekLt k) (λ c k. refl) (λ k h. h) words q e
+question-is reads.Get words q e = get-is words q e
+question-is reads.Scan words q e = scan-reads words q (scan-is (λ r n a. Scan r n a) words q e)
+question-is reads.RScan words q e = rscan-reads words q (scan-is (λ r n a. RScan r n a) words q e)
+question-is reads.First words q e = move-is (codes "first") First (λ c. refl) refl words q e
+question-is reads.Last words q e = move-is (codes "last") Last (λ c. refl) refl words q e
+question-is reads.Next words q e = move-is (codes "next") Next (λ c. refl) refl words q e
+question-is reads.Prev words q e = move-is (codes "prev") Prev (λ c. refl) refl words q e
+question-is reads.Seek words q e = seek-is (codes "seek") (λ k. Seek k) (λ c k. refl) (λ k h. h) words q e
+question-is reads.SeekLt words q e = seek-is (codes "seeklt") (λ k. SeekLt k) (λ c k. refl) (λ k h. h) words q e
 
 -- the verb of a question, and the words behind it
 pub record HasVerb (q : Question) : Type 0 where
@@ -174,15 +175,15 @@ pub record HasVerb (q : Question) : Type 0 where
   pub reads : question_read v words ≡ Ok q
 
 move-has : (cursor : List ℕ) (step : Step) → (is_name cursor && step_fits step) ≡ true → HasVerb (Move cursor step)
-move-has cursor First h = record { v = verb.first; words = cursor ∷ []; is = refl; reads = move-again First cursor h }
-move-has cursor Last h = record { v = verb.last; words = cursor ∷ []; is = refl; reads = move-again Last cursor h }
-move-has cursor Next h = record { v = verb.next; words = cursor ∷ []; is = refl; reads = move-again Next cursor h }
-move-has cursor Prev h = record { v = verb.prev; words = cursor ∷ []; is = refl; reads = move-again Prev cursor h }
-move-has cursor (Seek key) h = let p = and_parts (is_name cursor) (is_key key) h in record { v = verb.seek; words = cursor ∷ string_word key ∷ []; is = refl; reads = seek-again (λ k. Seek k) cursor key p.0 p.1 }
-move-has cursor (SeekLt key) h = let p = and_parts (is_name cursor) (is_key key) h in record { v = verb.seeklt; words = cursor ∷ string_word key ∷ []; is = refl; reads = seek-again (λ k. SeekLt k) cursor key p.0 p.1 }
+move-has cursor First h = record { v = reads.First; words = cursor ∷ []; is = refl; reads = move-again First cursor h }
+move-has cursor Last h = record { v = reads.Last; words = cursor ∷ []; is = refl; reads = move-again Last cursor h }
+move-has cursor Next h = record { v = reads.Next; words = cursor ∷ []; is = refl; reads = move-again Next cursor h }
+move-has cursor Prev h = record { v = reads.Prev; words = cursor ∷ []; is = refl; reads = move-again Prev cursor h }
+move-has cursor (Seek key) h = let p = and_parts (is_name cursor) (is_key key) h in record { v = reads.Seek; words = cursor ∷ string_word key ∷ []; is = refl; reads = seek-again (λ k. Seek k) cursor key p.0 p.1 }
+move-has cursor (SeekLt key) h = let p = and_parts (is_name cursor) (is_key key) h in record { v = reads.SeekLt; words = cursor ∷ string_word key ∷ []; is = refl; reads = seek-again (λ k. SeekLt k) cursor key p.0 p.1 }
 
 pub has-verb : (q : Question) → question_fits q ≡ true → suits_question q ≡ true → HasVerb q
-has-verb (Get key at) h s = record { v = verb.get; words = string_word key ∷ at_words at; is = refl; reads = get-again key at h }
-has-verb (Scan range most at) h s = record { v = verb.scan; words = range_words range ++ decimal most ∷ at_words at; is = refl; reads = scan-again (λ r n a. Scan r n a) range most at h s }
-has-verb (RScan range most at) h s = record { v = verb.rscan; words = range_words range ++ decimal most ∷ at_words at; is = refl; reads = scan-again (λ r n a. RScan r n a) range most at h s }
+has-verb (Get key at) h s = record { v = reads.Get; words = string_word key ∷ at_words at; is = refl; reads = get-again key at h }
+has-verb (Scan range most at) h s = record { v = reads.Scan; words = range_words range ++ decimal most ∷ at_words at; is = refl; reads = scan-again (λ r n a. Scan r n a) range most at h s }
+has-verb (RScan range most at) h s = record { v = reads.RScan; words = range_words range ++ decimal most ∷ at_words at; is = refl; reads = scan-again (λ r n a. RScan r n a) range most at h s }
 has-verb (Move cursor step) h s = move-has cursor step h

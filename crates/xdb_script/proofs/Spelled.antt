@@ -31,8 +31,10 @@ use Rattle.xdb_script.specs.Fields.{name_read, all_read, some_read}
 use Rattle.xdb_script.specs.Reading.{pair_read, op_read, question_read, found_or, found_read, found_client, begin_read, commit_read, named_read, numbered_read, pairs_shape, few_shape, snap_read, cursor_read, is_excise, up_to_excise, excise_shape, load_read, client_read, which_read, table_read, client_line, db_line, cmd_read, line_of}
 use Rattle.xdb_script.specs.Grammar.{suits_script}
 use Rattle.xdb_script.specs.Rules.{has_bounds, op_fits, at_fits, span_fits, question_fits, fits, is_sound}
-use Rattle.xdb_script.specs.Verbs.{ReadVerb, read_word}
-use Rattle.xdb_script.specs.Verbs as verb
+use Rattle.xdb_script.specs.Verbs.{read_word}
+use Rattle.xdb_script.specs.declared.verbs.ReadVerb.{ReadVerb}
+use Rattle.xdb_script.specs.declared.verbs.ReadVerb.TheVariants as reads
+use Rattle.xdb_script.specs.declared.verbs.ClientVerb.TheVariants as says
 use Rattle.xdb_script.specs.declared.error.Why.TheVariants as why
 use Rattle.xdb_script.specs.declared.form.ScriptForm.{ScriptForm}
 use Rattle.xdb_script.specs.declared.form.ScriptForm.TheVariants.{Run, Threads}
@@ -40,26 +42,26 @@ use Rattle.xdb_script.specs.declared.form.ScriptForm.TheVariants.{Run, Threads}
 -- ---- verbs
 
 found-read : (v : ReadVerb) → found_read (read_word v) ≡ Some v
-found-read verb.get = refl
-found-read verb.scan = refl
-found-read verb.rscan = refl
-found-read verb.first = refl
-found-read verb.last = refl
-found-read verb.next = refl
-found-read verb.prev = refl
-found-read verb.seek = refl
-found-read verb.seeklt = refl
+found-read reads.Get = refl
+found-read reads.Scan = refl
+found-read reads.RScan = refl
+found-read reads.First = refl
+found-read reads.Last = refl
+found-read reads.Next = refl
+found-read reads.Prev = refl
+found-read reads.Seek = refl
+found-read reads.SeekLt = refl
 
-found-client : (form : ScriptForm) (v : ReadVerb) → found_client form (read_word v) ≡ Some (verb.read v)
-found-client form verb.get = refl
-found-client form verb.scan = refl
-found-client form verb.rscan = refl
-found-client form verb.first = refl
-found-client form verb.last = refl
-found-client form verb.next = refl
-found-client form verb.prev = refl
-found-client form verb.seek = refl
-found-client form verb.seeklt = refl
+found-client : (form : ScriptForm) (v : ReadVerb) → found_client form (read_word v) ≡ Some (says.Read v)
+found-client form reads.Get = refl
+found-client form reads.Scan = refl
+found-client form reads.RScan = refl
+found-client form reads.First = refl
+found-client form reads.Last = refl
+found-client form reads.Next = refl
+found-client form reads.Prev = refl
+found-client form reads.Seek = refl
+found-client form reads.SeekLt = refl
 
 -- ---- operands
 

@@ -109,7 +109,7 @@ letters-byte-by : (b : ℕ) (word : List ℕ) → b < 256 → (t : Bool) → is_
 letters-byte-by b word h true e = letters-plain b word e
 letters-byte-by b word h false e = letters-escaped b word h
 
-letters-byte : (b : ℕ) (word : List ℕ) → b < 256 → letters (byte_word b ++ word) ≡ b ∷ letters word
+pub letters-byte : (b : ℕ) (word : List ℕ) → b < 256 → letters (byte_word b ++ word) ≡ b ∷ letters word
 letters-byte b word h = letters-byte-by b word h (is_plain b) refl
 
 letters-bytes : (bytes : List ℕ) → are_bytes bytes ≡ true → letters (flat_map byte_word bytes) ≡ bytes

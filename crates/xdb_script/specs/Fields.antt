@@ -1,5 +1,5 @@
 -- Single words read: what they stand for, or the defect that they have.
-use Rattle.std.specs.Prelude.{ℕ, ◌+◌, ◌-◌, ◌*◌, Bool, ◌&&◌, List, [], ◌∷◌, Option, Some, None, Result, Ok, Err, nat_lt, nat_le, ◌==◌, if◌then◌else◌, codes}
+use Rattle.std.specs.Prelude.{ℕ, ◌+◌, ◌-◌, ◌*◌, Bool, false, ◌&&◌, ◌||◌, List, [], ◌∷◌, length, Option, Some, None, Result, Ok, Err, nat_lt, nat_le, ◌==◌, if◌then◌else◌, codes}
 use Rattle.std.specs.Fmt.{decimal}
 use Rattle.std.specs.Ordering.{eq_by_cmp}
 use Rattle.std.specs.Str.Parse.{digits_value}
@@ -58,6 +58,11 @@ abbrev pub number_read : ℕ → ℕ → List ℕ → Result ℕ Why
 number_read least most word =
     let n = digits_value 10 word in
     if same_word (decimal n) word && (nat_le least n && nat_le n most) then Ok n else Err why.Number
+
+-- a decimal without leading zeros begins so
+abbrev pub begins_decimal : List ℕ → Bool
+begins_decimal [] = false
+begins_decimal (b ∷ bs) = (nat_le 49 b && nat_le b 57) || ((b == 48) && (length bs == 0))
 
 -- each of a list, from the left
 abbrev pub all_read : {X A : Type 0} → (X → Result A Why) → List X → Result (List A) Why

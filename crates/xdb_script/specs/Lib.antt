@@ -3,5 +3,8 @@ pub mod Grammar
 pub mod Verbs
 pub mod Fields
 pub mod Reading
+pub mod Answers
+pub mod Drafts
 pub mod Defects
+pub mod Whole
 pub mod Rows

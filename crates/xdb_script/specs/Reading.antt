@@ -26,12 +26,27 @@ use Rattle.xdb_plain.specs.declared.script.Cmd.TheVariants as cmd
 use Rattle.xdb_plain.specs.declared.script.Line.{Line}
 use Rattle.xdb_script.specs.Fields.{same_word, key_read, bound_read, value_read, name_read, number_read, all_read, some_read}
 use Rattle.xdb_script.specs.Rules.{ranges_rise, tables_stand, points_rise}
-use Rattle.xdb_script.specs.Verbs.{ReadVerb, ClientVerb, DbVerb, read_word, client_word, db_word, read_verbs, client_verbs, db_verbs, is_verb_in}
-use Rattle.xdb_script.specs.Verbs as verb
+use Rattle.xdb_script.specs.Verbs.{read_word, client_word, db_word, read_verbs, client_verbs, db_verbs, is_verb_in}
+use Rattle.xdb_script.specs.declared.verbs.ReadVerb.{ReadVerb}
+use Rattle.xdb_script.specs.declared.verbs.ClientVerb.{ClientVerb}
+use Rattle.xdb_script.specs.declared.verbs.DbVerb.{DbVerb}
+use Rattle.xdb_script.specs.declared.verbs.ReadVerb.TheVariants as reads
+use Rattle.xdb_script.specs.declared.verbs.ClientVerb.TheVariants as says
+use Rattle.xdb_script.specs.declared.verbs.DbVerb.TheVariants as owns
 use Rattle.xdb_script.specs.declared.error.Why.{Why}
 use Rattle.xdb_script.specs.declared.error.Why.TheVariants as why
 use Rattle.xdb_script.specs.declared.form.ScriptForm.{ScriptForm}
 use Rattle.xdb_script.specs.declared.form.ScriptForm.TheVariants.{Run, Threads}
+
+-- ---- so many words
+
+abbrev pub only_word : List (List ℕ) → Result (List ℕ) Why
+only_word (word ∷ []) = Ok word
+only_word _ = Err why.Shape
+
+abbrev pub two_words : List (List ℕ) → Result (List ℕ × List ℕ) Why
+two_words (first ∷ second ∷ []) = Ok (first, second)
+two_words _ = Err why.Shape
 
 -- ---- ranges and operations
 
@@ -43,23 +58,23 @@ pair_read pair = do
   Ok (bounds lo hi)
 
 abbrev pub set_read : List (List ℕ) → Result Op Why
-set_read (key ∷ value ∷ []) = do
-  k ← key_read key
-  v ← value_read value
+set_read words = do
+  pair ← two_words words
+  k ← key_read pair.0
+  v ← value_read pair.1
   Ok (op.Set k v)
-set_read _ = Err why.Shape
 
 abbrev pub del_read : List (List ℕ) → Result Op Why
-del_read (key ∷ []) = do
+del_read words = do
+  key ← only_word words
   k ← key_read key
   Ok (op.Del k)
-del_read _ = Err why.Shape
 
 abbrev pub span_read : List (List ℕ) → Result Op Why
-span_read (lo ∷ hi ∷ []) = do
-  range ← pair_read (lo, hi)
+span_read words = do
+  pair ← two_words words
+  range ← pair_read pair
   Ok (op.DelSpan range)
-span_read _ = Err why.Shape
 
 -- an operation of several, by its verb
 abbrev pub op_read : List (List ℕ) → Result Op Why
@@ -111,28 +126,28 @@ scan_read make (lo ∷ hi ∷ most ∷ words) = do
 scan_read make _ = Err why.Shape
 
 abbrev pub move_read : Step → List (List ℕ) → Result Question Why
-move_read step (cursor ∷ []) = do
+move_read step words = do
+  cursor ← only_word words
   name ← name_read cursor
   Ok (Move name step)
-move_read step _ = Err why.Shape
 
 abbrev pub seek_read : (List ℕ → Step) → List (List ℕ) → Result Question Why
-seek_read make (cursor ∷ key ∷ []) = do
-  name ← name_read cursor
-  k ← key_read key
+seek_read make words = do
+  pair ← two_words words
+  name ← name_read pair.0
+  k ← key_read pair.1
   Ok (Move name (make k))
-seek_read make _ = Err why.Shape
 
 abbrev pub question_read : ReadVerb → List (List ℕ) → Result Question Why
-question_read verb.get words = get_read words
-question_read verb.scan words = scan_read (λ range most at. Scan range most at) words
-question_read verb.rscan words = scan_read (λ range most at. RScan range most at) words
-question_read verb.first words = move_read First words
-question_read verb.last words = move_read Last words
-question_read verb.next words = move_read Next words
-question_read verb.prev words = move_read Prev words
-question_read verb.seek words = seek_read (λ key. Seek key) words
-question_read verb.seeklt words = seek_read (λ key. SeekLt key) words
+question_read reads.Get words = get_read words
+question_read reads.Scan words = scan_read (λ range most at. Scan range most at) words
+question_read reads.RScan words = scan_read (λ range most at. RScan range most at) words
+question_read reads.First words = move_read First words
+question_read reads.Last words = move_read Last words
+question_read reads.Next words = move_read Next words
+question_read reads.Prev words = move_read Prev words
+question_read reads.Seek words = seek_read (λ key. Seek key) words
+question_read reads.SeekLt words = seek_read (λ key. SeekLt key) words
 
 -- what was found, or the defect that nothing was
 abbrev pub found_or : {A : Type 0} → Why → Option A → Result A Why
@@ -142,13 +157,18 @@ found_or defect (Some x) = Ok x
 abbrev pub found_read : List ℕ → Option ReadVerb
 found_read word = find (λ v. same_word (read_word v) word) read_verbs
 
+-- the command that asks a question, in parts or whole
+abbrev pub ask_read : Result Question Why → Bool → Result Cmd Why
+ask_read read parted = do
+  question ← read
+  Ok (cmd.Ask question parted)
+
 -- `begin` stands before a question
 abbrev pub begin_read : List (List ℕ) → Result Cmd Why
 begin_read [] = Err why.Shape
 begin_read (word ∷ words) = do
   v ← found_or why.Shape (found_read word)
-  question ← question_read v words
-  Ok (cmd.Ask question true)
+  ask_read (question_read v words) true
 
 -- ---- clients
 
@@ -163,19 +183,28 @@ batch_read words = do
   ops ← all_read op_read parts
   Ok (cmd.Commit commit.Batch ops)
 
--- one word, and what it makes
-abbrev pub named_read : (List ℕ → Cmd) → List (List ℕ) → Result Cmd Why
-named_read make (word ∷ []) = do
-  name ← name_read word
-  Ok (make name)
-named_read make _ = Err why.Shape
+abbrev pub only_name : List (List ℕ) → Result (List ℕ) Why
+only_name words = do
+  word ← only_word words
+  name_read word
 
--- the number of a job or a question, and what it makes
+-- the number of a job or a question
+abbrev pub only_number : List (List ℕ) → Result ℕ Why
+only_number words = do
+  word ← only_word words
+  number_read 1 (2 ^ 56 - 1) word
+
+-- one name, and what it makes
+abbrev pub named_read : (List ℕ → Cmd) → List (List ℕ) → Result Cmd Why
+named_read make words = do
+  name ← only_name words
+  Ok (make name)
+
+-- one number, and what it makes
 abbrev pub numbered_read : (ℕ → Cmd) → List (List ℕ) → Result Cmd Why
-numbered_read make (word ∷ []) = do
-  n ← number_read 1 (2 ^ 56 - 1) word
+numbered_read make words = do
+  n ← only_number words
   Ok (make n)
-numbered_read make _ = Err why.Shape
 
 -- words by twos
 abbrev pub pairs_shape : List (List ℕ) → Result (List (List ℕ × List ℕ)) Why
@@ -236,68 +265,88 @@ load_read (word ∷ words) = do
   Ok (cmd.Load name tables span)
 
 abbrev pub client_read : ClientVerb → List (List ℕ) → Result Cmd Why
-client_read verb.put words = commit_read commit.Put (set_read words)
-client_read verb.del words = commit_read commit.Del (del_read words)
-client_read verb.delspan words = commit_read commit.DelSpan (span_read words)
-client_read verb.batch words = batch_read words
-client_read (verb.read v) words = do
-  question ← question_read v words
-  Ok (cmd.Ask question false)
-client_read verb.begin words = begin_read words
-client_read verb.settle words = numbered_read (λ ask. cmd.Settle ask) words
-client_read verb.snap words = snap_read words
-client_read verb.drop_snap words = named_read (λ name. cmd.Drop name) words
-client_read verb.status words = named_read (λ name. cmd.Status name status.Status) words
-client_read verb.await words = named_read (λ name. cmd.Status name status.Await) words
-client_read verb.cursor words = cursor_read words
-client_read verb.shut words = named_read (λ name. cmd.Shut name) words
-client_read verb.load words = load_read words
-client_read verb.install words = named_read (λ name. cmd.Install name) words
+client_read says.Put words = commit_read commit.Put (set_read words)
+client_read says.Del words = commit_read commit.Del (del_read words)
+client_read says.DelSpan words = commit_read commit.DelSpan (span_read words)
+client_read says.Batch words = batch_read words
+client_read (says.Read v) words = ask_read (question_read v words) false
+client_read says.Begin words = begin_read words
+client_read says.Settle words = numbered_read (λ ask. cmd.Settle ask) words
+client_read says.Snap words = snap_read words
+client_read says.Drop words = named_read (λ name. cmd.Drop name) words
+client_read says.Status words = named_read (λ name. cmd.Status name status.Status) words
+client_read says.Await words = named_read (λ name. cmd.Status name status.Await) words
+client_read says.Cursor words = cursor_read words
+client_read says.Shut words = named_read (λ name. cmd.Shut name) words
+client_read says.Load words = load_read words
+client_read says.Install words = named_read (λ name. cmd.Install name) words
 
 -- ---- the owner
 
+abbrev pub no_words : List (List ℕ) → Result (Unit {0}) Why
+no_words [] = Ok tt
+no_words _ = Err why.Shape
+
 abbrev pub alone_read : Cmd → List (List ℕ) → Result Cmd Why
-alone_read c [] = Ok c
-alone_read c _ = Err why.Shape
+alone_read c words = do
+  none ← no_words words
+  Ok c
 
--- `auto`, or a level from 0 to 6 and a range
-abbrev pub which_read : (Which → Cmd) → List (List ℕ) → Result Cmd Why
-which_read make (word ∷ []) = if same_word word (codes "auto") then Ok (make Auto) else Err why.Shape
-which_read make (word ∷ lo ∷ hi ∷ []) = do
-  level ← number_read 0 6 word
-  range ← pair_read (lo, hi)
+-- `auto`, or the words of a level and a range
+abbrev pub which_shape : List (List ℕ) → Result (Option (List ℕ × List ℕ × List ℕ)) Why
+which_shape (word ∷ []) = if same_word word (codes "auto") then Ok None else Err why.Shape
+which_shape (level ∷ lo ∷ hi ∷ []) = Ok (Some (level, lo, hi))
+which_shape _ = Err why.Shape
+
+-- a level is from 0 to 6
+abbrev pub which_made : (Which → Cmd) → Option (List ℕ × List ℕ × List ℕ) → Result Cmd Why
+which_made make None = Ok (make Auto)
+which_made make (Some at) = do
+  level ← number_read 0 6 at.0
+  range ← pair_read (at.1, at.2)
   Ok (make (At level range))
-which_read make _ = Err why.Shape
 
-abbrev pub show_read : List (List ℕ) → Result Cmd Why
-show_read (word ∷ []) =
+abbrev pub which_read : (Which → Cmd) → List (List ℕ) → Result Cmd Why
+which_read make words = do
+  which ← which_shape words
+  which_made make which
+
+abbrev pub shown_read : List ℕ → Result Cmd Why
+shown_read word =
     if same_word word (codes "levels") then Ok (cmd.Show what.Levels) else (
     if same_word word (codes "counts") then Ok (cmd.Show what.Counts) else (
     if same_word word (codes "snaps") then Ok (cmd.Show what.Snaps) else Err why.Shape))
-show_read _ = Err why.Shape
+
+abbrev pub show_read : List (List ℕ) → Result Cmd Why
+show_read words = do
+  word ← only_word words
+  shown_read word
 
 abbrev pub db_read : DbVerb → List (List ℕ) → Result Cmd Why
-db_read verb.seal words = alone_read cmd.Seal words
-db_read verb.flush_take words = alone_read cmd.FlushTake words
-db_read verb.put_job words = numbered_read (λ job. cmd.Put job) words
-db_read verb.compact_take words = which_read (λ which. cmd.CompactTake which) words
-db_read verb.build words = numbered_read (λ job. cmd.Build job) words
-db_read verb.work words = numbered_read (λ ask. cmd.Work ask) words
-db_read verb.flush words = alone_read cmd.Flush words
-db_read verb.compact words = which_read (λ which. cmd.Compact which) words
-db_read verb.reap words = alone_read cmd.Reap words
-db_read verb.show words = show_read words
+db_read owns.Seal words = alone_read cmd.Seal words
+db_read owns.FlushTake words = alone_read cmd.FlushTake words
+db_read owns.Put words = numbered_read (λ job. cmd.Put job) words
+db_read owns.CompactTake words = which_read (λ which. cmd.CompactTake which) words
+db_read owns.Build words = numbered_read (λ job. cmd.Build job) words
+db_read owns.Work words = numbered_read (λ ask. cmd.Work ask) words
+db_read owns.Flush words = alone_read cmd.Flush words
+db_read owns.Compact words = which_read (λ which. cmd.Compact which) words
+db_read owns.Reap words = alone_read cmd.Reap words
+db_read owns.Show words = show_read words
 
 -- ---- lines
 
 -- a table's name and its operations
-abbrev pub table_read : List (List ℕ) → Result Cmd Why
-table_read [] = Err why.Shape
-table_read (word ∷ words) = do
+abbrev pub named_table_read : List ℕ → List (List ℕ) → Result Cmd Why
+named_table_read word words = do
   parts ← ops_shape words
   name ← name_read word
   ops ← all_read op_read parts
   Ok (cmd.Table (table_ops name ops))
+
+abbrev pub table_read : List (List ℕ) → Result Cmd Why
+table_read [] = Err why.Shape
+table_read (word ∷ words) = named_table_read word words
 
 abbrev pub client_numbered : Result ℕ Why → Result (Option By) Why
 client_numbered (Ok n) = Ok (Some (Client n))
@@ -359,12 +408,19 @@ is_clean (b ∷ bs) = list_all is_visible (b ∷ bs)
 abbrev pub line_of : ℕ → Option By → Cmd → Line
 line_of number by c = record { number = number; by = by; cmd = c }
 
+-- what clean words say
+abbrev pub spoken_read : ScriptForm → List TableOps → ℕ → List ℕ → List (List ℕ) → Result Line Why
+spoken_read form tables number who words = do
+  by ← who_read form who
+  c ← cmd_read form by words
+  ruled ← rules_read tables c
+  Ok (line_of number by ruled)
+
+abbrev pub clean_read : ScriptForm → List TableOps → ℕ → List ℕ → List (List ℕ) → Result Line Why
+clean_read form tables number who words =
+    if not (list_all is_clean (who ∷ words)) then Err why.Spaces else spoken_read form tables number who words
+
 -- the line of a number, where these tables are defined above it
 abbrev pub line_read : ScriptForm → List TableOps → ℕ → List (List ℕ) → Result Line Why
 line_read form tables number [] = Err why.Spaces
-line_read form tables number (who ∷ words) =
-    if not (list_all is_clean (who ∷ words)) then Err why.Spaces else (do
-      by ← who_read form who
-      c ← cmd_read form by words
-      ruled ← rules_read tables c
-      Ok (line_of number by ruled))
+line_read form tables number (who ∷ words) = clean_read form tables number who words

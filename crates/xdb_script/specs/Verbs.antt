@@ -1,106 +1,71 @@
--- The verbs, and who may use them.
+-- The words of the verbs, and who may use them.
 use Rattle.std.specs.Prelude.{ℕ, Bool, true, false, not, ◌||◌, List, [], ◌∷◌, map, codes}
 use Rattle.xdb_script.specs.declared.form.ScriptForm.{ScriptForm}
 use Rattle.xdb_script.specs.declared.form.ScriptForm.TheVariants.{Run, Threads}
-
--- what begins a question
-pub data ReadVerb : Type 0 where
-  get : ReadVerb
-  scan : ReadVerb
-  rscan : ReadVerb
-  first : ReadVerb
-  last : ReadVerb
-  next : ReadVerb
-  prev : ReadVerb
-  seek : ReadVerb
-  seeklt : ReadVerb
-
--- what a client says
-pub data ClientVerb : Type 0 where
-  put : ClientVerb
-  del : ClientVerb
-  delspan : ClientVerb
-  batch : ClientVerb
-  read : ReadVerb → ClientVerb
-  begin : ClientVerb
-  settle : ClientVerb
-  snap : ClientVerb
-  drop_snap : ClientVerb
-  status : ClientVerb
-  await : ClientVerb
-  cursor : ClientVerb
-  shut : ClientVerb
-  load : ClientVerb
-  install : ClientVerb
-
--- what the owner says
-pub data DbVerb : Type 0 where
-  seal : DbVerb
-  flush_take : DbVerb
-  put_job : DbVerb
-  compact_take : DbVerb
-  build : DbVerb
-  work : DbVerb
-  flush : DbVerb
-  compact : DbVerb
-  reap : DbVerb
-  show : DbVerb
+use Rattle.xdb_script.specs.declared.verbs.ClientVerb.{ClientVerb}
+use Rattle.xdb_script.specs.declared.verbs.ClientVerb.TheVariants as says
+use Rattle.xdb_script.specs.declared.verbs.DbVerb.{DbVerb}
+use Rattle.xdb_script.specs.declared.verbs.DbVerb.TheVariants as owns
+use Rattle.xdb_script.specs.declared.verbs.ReadVerb.{ReadVerb}
+use Rattle.xdb_script.specs.declared.verbs.ReadVerb.TheVariants as reads
 
 abbrev pub read_word : ReadVerb → List ℕ
-read_word get = codes "get"
-read_word scan = codes "scan"
-read_word rscan = codes "rscan"
-read_word first = codes "first"
-read_word last = codes "last"
-read_word next = codes "next"
-read_word prev = codes "prev"
-read_word seek = codes "seek"
-read_word seeklt = codes "seeklt"
+read_word reads.Get = codes "get"
+read_word reads.Scan = codes "scan"
+read_word reads.RScan = codes "rscan"
+read_word reads.First = codes "first"
+read_word reads.Last = codes "last"
+read_word reads.Next = codes "next"
+read_word reads.Prev = codes "prev"
+read_word reads.Seek = codes "seek"
+read_word reads.SeekLt = codes "seeklt"
 
 abbrev pub client_word : ClientVerb → List ℕ
-client_word put = codes "put"
-client_word del = codes "del"
-client_word delspan = codes "delspan"
-client_word batch = codes "batch"
-client_word (read v) = read_word v
-client_word begin = codes "begin"
-client_word settle = codes "settle"
-client_word snap = codes "snap"
-client_word drop_snap = codes "drop"
-client_word status = codes "status"
-client_word await = codes "await"
-client_word cursor = codes "cursor"
-client_word shut = codes "shut"
-client_word load = codes "load"
-client_word install = codes "install"
+client_word says.Put = codes "put"
+client_word says.Del = codes "del"
+client_word says.DelSpan = codes "delspan"
+client_word says.Batch = codes "batch"
+client_word (says.Read v) = read_word v
+client_word says.Begin = codes "begin"
+client_word says.Settle = codes "settle"
+client_word says.Snap = codes "snap"
+client_word says.Drop = codes "drop"
+client_word says.Status = codes "status"
+client_word says.Await = codes "await"
+client_word says.Cursor = codes "cursor"
+client_word says.Shut = codes "shut"
+client_word says.Load = codes "load"
+client_word says.Install = codes "install"
 
 abbrev pub db_word : DbVerb → List ℕ
-db_word seal = codes "seal"
-db_word flush_take = codes "flush-take"
-db_word put_job = codes "put"
-db_word compact_take = codes "compact-take"
-db_word build = codes "build"
-db_word work = codes "work"
-db_word flush = codes "flush"
-db_word compact = codes "compact"
-db_word reap = codes "reap"
-db_word show = codes "show"
+db_word owns.Seal = codes "seal"
+db_word owns.FlushTake = codes "flush-take"
+db_word owns.Put = codes "put"
+db_word owns.CompactTake = codes "compact-take"
+db_word owns.Build = codes "build"
+db_word owns.Work = codes "work"
+db_word owns.Flush = codes "flush"
+db_word owns.Compact = codes "compact"
+db_word owns.Reap = codes "reap"
+db_word owns.Show = codes "show"
 
 abbrev pub read_verbs : List ReadVerb
-read_verbs = get ∷ scan ∷ rscan ∷ first ∷ last ∷ next ∷ prev ∷ seek ∷ seeklt ∷ []
+read_verbs =
+    reads.Get ∷ reads.Scan ∷ reads.RScan ∷ reads.First ∷ reads.Last ∷ reads.Next ∷ reads.Prev ∷ reads.Seek ∷ reads.SeekLt ∷ []
 
 abbrev pub client_verbs : List ClientVerb
 client_verbs =
-    put ∷ del ∷ delspan ∷ batch ∷ begin ∷ settle ∷ snap ∷ drop_snap ∷ status ∷ await ∷ cursor ∷ shut ∷ load ∷ install
-    ∷ map (λ v. read v) read_verbs
+    says.Put ∷ says.Del ∷ says.DelSpan ∷ says.Batch ∷ says.Begin ∷ says.Settle ∷ says.Snap ∷ says.Drop ∷ says.Status ∷ says.Await ∷ says.Cursor ∷ says.Shut
+    ∷ says.Load ∷ says.Install ∷ map (λ v. says.Read v) read_verbs
 
 abbrev pub db_verbs : List DbVerb
-db_verbs = seal ∷ flush_take ∷ put_job ∷ compact_take ∷ build ∷ work ∷ flush ∷ compact ∷ reap ∷ show ∷ []
+db_verbs =
+    owns.Seal ∷ owns.FlushTake ∷ owns.Put ∷ owns.CompactTake ∷ owns.Build ∷ owns.Work ∷ owns.Flush ∷ owns.Compact ∷ owns.Reap ∷ owns.Show ∷ []
 
 -- a question in parts
 abbrev pub is_parted : ClientVerb → Bool
-is_parted begin = true
-is_parted settle = true
+is_parted says.Begin = true
+is_parted says.Settle = true
 is_parted _ = false
 
 abbrev pub is_run : ScriptForm → Bool

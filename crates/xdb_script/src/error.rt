@@ -1,4 +1,5 @@
 ghost use Rattle.std.specs.Prelude.{◌≡◌};
+ghost use Rattle.xdb_script.specs.declared.error.LineNo.TheVariants as line_no;
 ghost use Rattle.xdb_script.specs.declared.error.ScriptNo.TheVariants as no;
 
 use std::alloc::{AllocError, AllocFailed};
@@ -71,5 +72,29 @@ impl<T: Drop> From<AllocFailed<T>> for ScriptNo {
 
     fn from(_e: AllocFailed<T>) -> ScriptNo {
         ScriptNo::Memory
+    }
+}
+
+/// Why a line, or a part of it, isn't read.
+#[derive(Clone, Copy, Debug, PartialEq, Eq)]
+pub enum LineNo {
+    /// The line's first defect.
+    Bad(Why),
+    Memory,
+}
+
+impl From<AllocError> for LineNo {
+    ghost from_gives = { λ _ e. e ≡ line_no.Memory };
+
+    fn from(_e: AllocError) -> LineNo {
+        LineNo::Memory
+    }
+}
+
+impl<T: Drop> From<AllocFailed<T>> for LineNo {
+    ghost from_gives = { λ _ e. e ≡ line_no.Memory };
+
+    fn from(_e: AllocFailed<T>) -> LineNo {
+        LineNo::Memory
     }
 }
