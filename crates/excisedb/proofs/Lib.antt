@@ -1,5 +1,3 @@
 pub mod StoreLaws
 pub mod SessionLaws
-pub mod ReaderLaws
 pub mod TopLaws
-pub mod ScriptLaws

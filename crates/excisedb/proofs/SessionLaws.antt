@@ -5,14 +5,15 @@ use Rattle.std.specs.FinMap as map
 use Rattle.std.specs.Option.{option_map}
 use Rattle.std.specs.List.{list_any, filter}
 use Rattle.xdb_history.specs.Recorded.{Recorded, state_of}
+use Rattle.xdb_key.specs.Bounds.{holds}
 use Rattle.xdb_key.specs.declared.op.Op.{Op}
 use Rattle.xdb_plain.specs.Answers.{value_or_absent}
 use Rattle.xdb_plain.specs.Changes.{after}
 use Rattle.xdb_plain.specs.Counts.{dead, is_dead}
 use Rattle.xdb_plain.specs.PlainMap.{PlainMap, acted_all}
-use Rattle.xdb_plain.specs.Replies.{may_reply, same_reply, kept_back, commit_replies, ask_replies, room_replies}
+use Rattle.xdb_plain.specs.Replies.{may_reply, same_reply, kept_back, commit_replies, ask_replies, room_replies, through_replies}
 use Rattle.xdb_plain.specs.Fences.{fence_touched}
-use Rattle.xdb_plain.specs.State.{Plain, OpenQuestion, opening, found_question, without_question}
+use Rattle.xdb_plain.specs.State.{Plain, OpenQuestion, opening, found_question, found_snap, without_question}
 use Rattle.xdb_plain.specs.Steps.{MayStand, FitsAsk, is_client}
 use Rattle.xdb_plain.specs.Legal.{after_all, Right, AnswersRight}
 use Rattle.xdb_plain.proofs.HistoryLaws.{after_all-push, right_push}
@@ -24,9 +25,9 @@ use Rattle.xdb_plain.specs.declared.question.Question.{Question}
 use Rattle.xdb_plain.specs.declared.question.Question.TheVariants.{Get, Scan, RScan, Move}
 use Rattle.xdb_plain.specs.declared.answer.Answer.{Answer}
 use Rattle.xdb_plain.specs.declared.reply.Reply.{Reply}
-use Rattle.xdb_plain.specs.declared.reply.Reply.TheVariants.{Done, Answered, Asked, TooMany, Spent, Memory}
+use Rattle.xdb_plain.specs.declared.reply.Reply.TheVariants.{Done, Answered, Asked, NoSuch, TooMany, Spent, Memory}
 use Rattle.xdb_plain.specs.declared.note.Note.{Note}
-use Rattle.excisedb.specs.Kept.{AtRest, IsKept, IsCommitted, is_get, is_spent, got, plain_note, opened, answered, lacked}
+use Rattle.excisedb.specs.Kept.{AtRest, IsKept, IsCommitted, is_get_now, is_get_at, is_spent, got, plain_note, opened, answered, missed, lacked}
 
 -- ---- a commit
 
@@ -87,6 +88,7 @@ rest-done m next asked p by form ops rest = record {
   same_next = ap (λ n. n + length ops) rest.same_next;
   same_asked = rest.same_asked;
   no_questions = rest.no_questions;
+  no_snaps = rest.no_snaps;
   no_loads = rest.no_loads;
   no_files = rest.no_files;
 }
@@ -97,6 +99,7 @@ rest-same m next asked p by form ops rest = record {
   same_next = rest.same_next;
   same_asked = rest.same_asked;
   no_questions = rest.no_questions;
+  no_snaps = rest.no_snaps;
   no_loads = rest.no_loads;
   no_files = rest.no_files;
 }
@@ -107,6 +110,7 @@ rest-spent m next asked p by form ops rest = record {
   same_next = rest.same_next;
   same_asked = rest.same_asked;
   no_questions = rest.no_questions;
+  no_snaps = rest.no_snaps;
   no_loads = rest.no_loads;
   no_files = rest.no_files;
 }
@@ -143,6 +147,7 @@ pub record WhileOpen (m : PlainMap) (next ask : ℕ) (by : By) (key : List ℕ) 
   pub same_next : p.next ≡ next
   pub same_asked : p.asked ≡ ask
   pub one_question : p.questions ≡ record { ask = ask; by = by; question = Get key None; parted = false; answer = value_or_absent (map.get m key); place = Before } ∷ []
+  pub no_snaps : p.snaps ≡ []
   pub no_loads : p.loads ≡ []
   pub no_files : p.known ≡ []
 
@@ -176,6 +181,7 @@ while-open m next asked ask p by key rest is = record {
   same_next = rest.same_next;
   same_asked = ap (λ n. n + 1) rest.same_asked ∙ sym is;
   one_question = ap (λ qs. qs ++ open_get p.map ask by key ∷ []) rest.no_questions ∙ ap (λ x. open_get x ask by key ∷ []) rest.same_map;
+  no_snaps = rest.no_snaps;
   no_loads = rest.no_loads;
   no_files = rest.no_files;
 }
@@ -200,6 +206,7 @@ closed m next ask by key p answer open_now = record {
   same_next = open_now.same_next;
   same_asked = open_now.same_asked;
   no_questions = ap (without_question ask) open_now.one_question ∙ ap (λ t. cond (not t) (open_get m ask by key ∷ []) []) (eq-eqb ask ask refl);
+  no_snaps = open_now.no_snaps;
   no_loads = open_now.no_loads;
   no_files = open_now.no_files;
 }
@@ -212,7 +219,7 @@ pub record Reads (m : PlainMap) (next ask : ℕ) (p : Plain) (first second : Not
   pub answers_behind : AnswersRight (after p first) second.act second.reply
   pub rest : AtRest m next ask (after (after p first) second)
 
-pub reads : (m : PlainMap) (next asked ask : ℕ) (p : Plain) (by : By) (question : Question) → AtRest m next asked p → IsTrue (is_client by) → IsTrue (is_get question) → ask ≡ asked + 1 → Reads m next ask p (opened ask by question) (answered ask by question (got m question))
+pub reads : (m : PlainMap) (next asked ask : ℕ) (p : Plain) (by : By) (question : Question) → AtRest m next asked p → IsTrue (is_client by) → IsTrue (is_get_now question) → ask ≡ asked + 1 → Reads m next ask p (opened ask by question) (answered ask by question (got m question))
 reads m next asked ask p by (Get key None) rest client get is =
     let open_now = while-open m next asked ask p by key rest is in
     record {
@@ -246,17 +253,51 @@ rest-lacked m next asked p by key rest = record {
   same_next = rest.same_next;
   same_asked = rest.same_asked;
   no_questions = ap (without_question 0) rest.no_questions;
+  no_snaps = rest.no_snaps;
   no_loads = rest.no_loads;
   no_files = rest.no_files;
 }
 
-pub lacks : (m : PlainMap) (next asked : ℕ) (p : Plain) (by : By) (question : Question) → AtRest m next asked p → IsTrue (is_client by) → IsTrue (is_get question) → Committed m m next next asked p (lacked by question)
+pub lacks : (m : PlainMap) (next asked : ℕ) (p : Plain) (by : By) (question : Question) → AtRest m next asked p → IsTrue (is_client by) → IsTrue (is_get_now question) → Committed m m next next asked p (lacked by question)
 lacks m next asked p by (Get key None) rest client get =
     record { stands = may-lack-read m next asked p by key rest client; answers = tt; rest = rest-lacked m next asked p by key rest }
 lacks m next asked p by (Get key (Some at)) rest client get = absurd (false≢true get)
 lacks m next asked p by (Scan range most at) rest client get = absurd (false≢true get)
 lacks m next asked p by (RScan range most at) rest client get = absurd (false≢true get)
 lacks m next asked p by (Move cursor step) rest client get = absurd (false≢true get)
+
+-- ---- a read at a snapshot
+
+may-miss : (m : PlainMap) (next asked : ℕ) (p : Plain) (by : By) (key at : List ℕ) → AtRest m next asked p → IsTrue (is_client by) → MayStand p (missed by (Get key (Some at)))
+may-miss m next asked p by key at rest client = record {
+  by = client;
+  reply =
+      ap (λ qs. list_any (same_reply NoSuch) (ask_replies p (Get key (Some at)) (found_question 0 qs))) rest.no_questions
+      ∙ ap (λ ss. list_any (same_reply NoSuch) (through_replies (λ r. holds r key) (found_snap at ss) (room_replies p))) rest.no_snaps;
+  act = subst (λ qs. FitsAsk (found_question 0 qs) by 0 (Get key (Some at)) false NoSuch) (sym rest.no_questions) refl;
+  edit = refl;
+  tried = refl;
+  shown = tt;
+}
+
+rest-missed : (m : PlainMap) (next asked : ℕ) (p : Plain) (by : By) (key at : List ℕ) → AtRest m next asked p → AtRest m next asked (after p (missed by (Get key (Some at))))
+rest-missed m next asked p by key at rest = record {
+  same_map = rest.same_map;
+  same_next = rest.same_next;
+  same_asked = rest.same_asked;
+  no_questions = rest.no_questions;
+  no_snaps = rest.no_snaps;
+  no_loads = rest.no_loads;
+  no_files = rest.no_files;
+}
+
+pub misses : (m : PlainMap) (next asked : ℕ) (p : Plain) (by : By) (question : Question) → AtRest m next asked p → IsTrue (is_client by) → IsTrue (is_get_at question) → Committed m m next next asked p (missed by question)
+misses m next asked p by (Get key (Some at)) rest client get =
+    record { stands = may-miss m next asked p by key at rest client; answers = tt; rest = rest-missed m next asked p by key at rest }
+misses m next asked p by (Get key None) rest client get = absurd (false≢true get)
+misses m next asked p by (Scan range most at) rest client get = absurd (false≢true get)
+misses m next asked p by (RScan range most at) rest client get = absurd (false≢true get)
+misses m next asked p by (Move cursor step) rest client get = absurd (false≢true get)
 
 -- a session goes on by a note that may stand, whose room was made before
 pub one-more : (m n : PlainMap) (next later asked : ℕ) (h k more : Recorded) (note : Note) → IsKept m next asked h → k.first_seq ≡ h.first_seq → k.first_file ≡ h.first_file → k.notes ≡ h.notes → Committed m n next later asked (state_of k) note → more.first_seq ≡ k.first_seq → more.first_file ≡ k.first_file → more.notes ≡ k.notes ++ note ∷ [] → later ≤ 2 ^ 56 → IsKept n later asked more

@@ -1,33 +1,67 @@
 -- From the parts of a call to what it has read and written.
-use Rattle.std.proofs.Common.{◌≡◌, ℕ, ◌+◌, ◌<◌, ◌≤◌, true, List, [], ◌∷◌, length, take, Option, Some, None, refl, sym, ap, subst, ◌∙◌, inl, inr, arith}
-use Rattle.std.specs.List.{list_all}
+use Rattle.std.proofs.Common.{◌≡◌, ℕ, ◌+◌, ◌<◌, ◌≤◌, Bool, true, false, cond, not, ltb, ◌&&◌, List, [], ◌∷◌, length, take, Option, Some, None, Result, Ok, Err, refl, sym, ap, subst, ◌∙◌, inl, inr, arith}
+use Rattle.std.specs.List.{find, list_all}
+use Rattle.std.specs.Option.{option_map}
 use Rattle.std.specs.Io.KnownBytes.{Appends, Consumes, IsAtEnd, prepend_known, append_known}
-use Rattle.std.proofs.lemmas.Bool.{and_from, cases_lt}
+use Rattle.std.proofs.lemmas.Bool.{and_parts, and_from, cases_lt, false≢true}
 use Rattle.xdb_device.specs.Streams.{Grew}
-use Rattle.xdb_plain.specs.declared.question.Question.TheVariants.{Get}
 use Rattle.xdb_plain.specs.declared.script.Cmd.{Cmd}
 use Rattle.xdb_plain.specs.declared.script.Cmd.TheVariants as cmd
 use Rattle.xdb_plain.specs.declared.script.Line.{Line}
-use Rattle.xdb_plain.specs.Scripts.{by_client}
-use Rattle.excisedb.specs.Grammar.{IsCommand, AreLines, most_bytes}
-use Rattle.excisedb.specs.Kept.{is_whole, is_run}
-use Rattle.excisedb.specs.Ends.{run_words, usage_text, AreRead, IsReply, IsRefusal, IsUsage, IsAnswered, MayWrite, Ends}
-use Rattle.excisedb.specs.Outcome.{Replies, IsSent}
+use Rattle.xdb_plain.specs.Scripts.{suits, tables_below, are_lines}
+use Rattle.xdb_plain.specs.Steps.{is_client}
+use Rattle.xdb_plain.specs.Tables.{TableOps}
+use Rattle.xdb_plain.specs.declared.act.By.{By}
+use Rattle.xdb_script.specs.Defects.{script_read}
+use Rattle.xdb_script.specs.Grammar.{Spells, most_bytes}
+use Rattle.xdb_script.specs.Whole.{IsAnswer}
+use Rattle.xdb_script.specs.declared.error.ScriptNo.{ScriptNo}
+use Rattle.xdb_script.specs.declared.error.ScriptNo.TheVariants.{BadLine}
+use Rattle.xdb_script.specs.declared.error.Why.{Why}
+use Rattle.xdb_script.specs.declared.error.Why.TheVariants as why
+use Rattle.xdb_script.specs.declared.form.ScriptForm.TheVariants.{Run}
+use Rattle.excisedb.specs.Built.{is_get, is_built, first_unbuilt}
+use Rattle.excisedb.specs.Kept.{may_run, is_run}
+use Rattle.excisedb.specs.Ends.{run_words, usage_text, refusal_text, refused, AreRead, IsReply, IsRefusal, IsUsage, IsAnswered, MayWrite, Ends}
+use Rattle.excisedb.specs.Outcome.{Replies, RepliesTo, IsSent}
 use Rattle.excisedb.specs.declared.status.Status.{Status}
 use Rattle.excisedb.specs.declared.status.Status.TheVariants.{Done, Words, Script, ReadFault, WriteFault, Memory}
 
-whole-command : (c : Cmd) → IsCommand c → is_whole c ≡ true
-whole-command (cmd.Commit form ops) is = refl
-whole-command (cmd.Ask (Get key None) parted) is = is.1
-whole-command _ is = absurd is
+run-by : (tables : List TableOps) (by : Option By) (c : Cmd) → suits tables by c ≡ true → is_built c ≡ true → may_run by c ≡ true
+run-by tables None (cmd.Table table) s built = refl
+run-by tables (Some by) (cmd.Table table) s built = absurd (false≢true s)
+run-by tables None (cmd.Commit form ops) s built = absurd (false≢true s)
+run-by tables (Some by) (cmd.Commit form ops) s built = (and_parts (is_client by) _ s).0
+run-by tables None (cmd.Ask question false) s built = absurd (false≢true s)
+run-by tables (Some by) (cmd.Ask question false) s built = and_from (is_client by) (is_get question) (and_parts (is_client by) _ s).0 built
+run-by tables by (cmd.Ask question true) s built = absurd (false≢true built)
+run-by tables by _ s built = absurd (false≢true built)
 
--- the lines that are spelled can be run
-pub lines-run : (number : ℕ) (parts : List (List ℕ)) (lines : List Line) → AreLines number parts lines → list_all is_run lines ≡ true
-lines-run number [] [] h = refl
-lines-run number [] (line ∷ lines) h = absurd h
-lines-run number (part ∷ parts) [] h = absurd h
-lines-run number (part ∷ parts) (line ∷ lines) h =
-    and_from (is_run line) (list_all is_run lines) (and_from (by_client line.by) (is_whole line.cmd) (ap by_client h.0.said ∙ h.0.client) (whole-command line.cmd h.0.command)) (lines-run (number + 1) parts lines h.1)
+-- the lines of a script can be run where each is built
+pub lines-run : (last : ℕ) (tables : List TableOps) (lines : List Line) → are_lines last tables lines ≡ true → first_unbuilt lines ≡ None → list_all is_run lines ≡ true
+lines-run last tables [] h none = refl
+lines-run last tables (line ∷ lines) h none =
+    let parts = and_parts (ltb last line.number && suits tables line.by line.cmd) (are_lines line.number (tables_below tables line.cmd) lines) h in
+    let suited = (and_parts (ltb last line.number) (suits tables line.by line.cmd) parts.0).1 in
+    by (is_built line.cmd) refl suited none (lines-run line.number (tables_below tables line.cmd) lines parts.1)
+  where
+    by : (t : Bool) → is_built line.cmd ≡ t → suits tables line.by line.cmd ≡ true → option_map (λ (l : Line). l.number) (cond (not t) (Some line) (find (λ l. not (is_built l.cmd)) lines)) ≡ None → (first_unbuilt lines ≡ None → list_all is_run lines ≡ true) → (may_run line.by line.cmd && list_all is_run lines) ≡ true
+    by true built suited none others = and_from _ _ (run-by tables line.by line.cmd suited built) (others none)
+    by false built suited none others = absurd (cc)
+
+-- a script's reply is that of the bytes that spell it
+pub replies-to : (bytes : List ℕ) (lines : List Line) (status : Status) (text : List ℕ) → script_read Run bytes ≡ Ok lines → Spells Run bytes lines → RepliesTo lines status text → Replies bytes status text
+replies-to bytes lines Done text read spelled h = record { lines = lines; notes = h.1.0; spelled = spelled; built = h.0; right = h.1.1; run = h.1.2; printed = h.1.3 }
+replies-to bytes lines Script text read spelled h = record { defect = (h.0, why.Verb); found = ap refused read ∙ ap (λ o. option_map (λ (n : ℕ). (n, why.Verb)) o) h.1; told = h.2 }
+replies-to bytes lines _ text read spelled h = absurd h
+
+-- what a refusal tells of what was read
+pub read-refused : (result : Result (List Line) ScriptNo) (read : Result (List Line) (ℕ × Why)) (line : ℕ) (reason : Why) → IsAnswer result read → result ≡ Err (BadLine line reason) → read ≡ Err (line, reason)
+read-refused result read line reason answer is = subst (λ r. IsAnswer r read) is answer
+
+-- bytes that spell no script
+pub replies-refused : (bytes : List ℕ) (line : ℕ) (reason : Why) (text : List ℕ) → script_read Run bytes ≡ Err (line, reason) → text ≡ refusal_text (line, reason) → Replies bytes Script text
+replies-refused bytes line reason text read told = record { defect = (line, reason); found = ap refused read; told = told }
 
 appends : (old new : Option (List ℕ)) (text : List ℕ) → new ≡ append_known old text → Appends old new text
 appends None new text e = tt

@@ -1,12 +1,19 @@
 -- What a call of the program has read and written when it ends, by its status.
-use Rattle.std.specs.Prelude.{◌≡◌, ◌≢◌, ◌⊎◌, ℕ, ◌+◌, ◌≤◌, Option, List, [], ◌∷◌, length, take, codes}
+use Rattle.std.specs.Prelude.{◌≡◌, ◌≢◌, ◌⊎◌, ℕ, ◌+◌, ◌≤◌, Option, Some, None, List, [], ◌∷◌, ◌++◌, length, take, Result, Ok, Err, codes}
+use Rattle.std.specs.Fmt.{decimal}
+use Rattle.std.specs.Option.{option_map}
 use Rattle.std.specs.Io.KnownBytes.{Appends, Consumes, IsAtEnd}
 use Rattle.xdb_plain.specs.Legal.{IsRight}
 use Rattle.xdb_plain.specs.Printed.{text_of}
 use Rattle.xdb_plain.specs.Runs.{IsRunOf}
 use Rattle.xdb_plain.specs.declared.note.Note.{Note}
 use Rattle.xdb_plain.specs.declared.script.Line.{Line}
-use Rattle.excisedb.specs.Grammar.{Spells, SpellsNothing, most_bytes}
+use Rattle.xdb_script.specs.Defects.{script_read}
+use Rattle.xdb_script.specs.Grammar.{Spells, most_bytes}
+use Rattle.xdb_script.specs.declared.error.Why.{Why}
+use Rattle.xdb_script.specs.declared.error.Why.TheVariants as why
+use Rattle.xdb_script.specs.declared.form.ScriptForm.TheVariants.{Run}
+use Rattle.excisedb.specs.Built.{first_unbuilt}
 use Rattle.excisedb.specs.declared.status.Status.{Status}
 use Rattle.excisedb.specs.declared.status.Status.TheVariants.{Done, Words, Script, ReadFault, WriteFault, Memory}
 
@@ -17,8 +24,28 @@ run_words = codes "run" ∷ []
 abbrev pub usage_text : List ℕ
 usage_text = codes "usage: excisedb run | threads --workers N | gen --ops N --seed X\n"
 
-abbrev pub form_text : List ℕ
-form_text = codes "form\n"
+abbrev pub why_word : Why → List ℕ
+why_word why.Long = codes "long"
+why_word why.Spaces = codes "spaces"
+why_word why.Who = codes "who"
+why_word why.Verb = codes "verb"
+why_word why.Shape = codes "shape"
+why_word why.Token = codes "token"
+why_word why.Length = codes "length"
+why_word why.Name = codes "name"
+why_word why.Number = codes "number"
+why_word why.Range = codes "range"
+why_word why.Table = codes "table"
+why_word why.Order = codes "order"
+
+-- a line and a reason
+abbrev pub refusal_text : ℕ × Why → List ℕ
+refusal_text defect = codes "line " ++ decimal defect.0 ++ codes ": " ++ why_word defect.1 ++ 10 ∷ []
+
+-- the first defect of what was read; of a script it is the first line whose verb isn't built
+abbrev pub refused : Result (List Line) (ℕ × Why) → Option (ℕ × Why)
+refused (Err defect) = Some defect
+refused (Ok lines) = option_map (λ line. (line, why.Verb)) (first_unbuilt lines)
 
 -- The bytes read: all that were left, or the first 1,048,577 of them.
 pub record AreRead (left left' : Option (List ℕ)) (bytes : List ℕ) : Type 0 where
@@ -29,15 +56,17 @@ pub record AreRead (left left' : Option (List ℕ)) (bytes : List ℕ) : Type 0 
 pub record IsReply (bytes text : List ℕ) : Type 0 where
   pub lines : List Line
   pub notes : List Note
-  pub spelled : Spells bytes lines
+  pub spelled : Spells Run bytes lines
+  pub built : first_unbuilt lines ≡ None
   pub right : IsRight 1 1 notes
   pub run : IsRunOf 1 1 lines notes
   pub printed : text ≡ text_of notes
 
--- the bytes spell no script, and the text says so
+-- The bytes spell no script, or one with a verb that isn't built, and the text names the first such line.
 pub record IsRefusal (bytes text : List ℕ) : Type 0 where
-  pub nothing : SpellsNothing bytes
-  pub told : text ≡ form_text
+  pub defect : ℕ × Why
+  pub found : refused (script_read Run bytes) ≡ Some defect
+  pub told : text ≡ refusal_text defect
 
 -- Words other than the command: the source is left alone, and the text is the usage line.
 pub record IsUsage (words : List (List ℕ)) (left left' : Option (List ℕ)) (text : List ℕ) : Type 0 where

@@ -1,5 +1,5 @@
 -- What a session keeps: a right history, and what it has come to.
-use Rattle.std.specs.Prelude.{◌≡◌, ℕ, ◌+◌, ◌≤◌, ◌^◌, Bool, true, false, not, ◌&&◌, List, [], ◌++◌, length, Option, None, nat_lt}
+use Rattle.std.specs.Prelude.{◌≡◌, ℕ, ◌+◌, ◌≤◌, ◌^◌, Bool, true, false, ◌&&◌, List, [], ◌++◌, length, Option, Some, None, nat_lt}
 use Rattle.std.specs.FinMap as map
 use Rattle.xdb_history.specs.Recorded.{Recorded, state_of}
 use Rattle.xdb_key.specs.declared.op.Op.{Op}
@@ -7,7 +7,8 @@ use Rattle.xdb_plain.specs.Answers.{value_or_absent}
 use Rattle.xdb_plain.specs.Counts.{dead}
 use Rattle.xdb_plain.specs.PlainMap.{PlainMap, acted_all}
 use Rattle.xdb_plain.specs.State.{Plain, opening}
-use Rattle.xdb_plain.specs.Scripts.{by_client}
+use Rattle.xdb_plain.specs.Steps.{is_client}
+use Rattle.excisedb.specs.Built.{is_get}
 use Rattle.xdb_plain.specs.Legal.{after_all, Right}
 use Rattle.xdb_plain.specs.Runs.{Run, IsBlock}
 use Rattle.xdb_plain.specs.declared.act.Act.{Act}
@@ -18,7 +19,7 @@ use Rattle.xdb_plain.specs.declared.question.Question.TheVariants.{Get}
 use Rattle.xdb_plain.specs.declared.answer.Answer.{Answer}
 use Rattle.xdb_plain.specs.declared.answer.Answer.TheVariants.{Absent}
 use Rattle.xdb_plain.specs.declared.reply.Reply.{Reply}
-use Rattle.xdb_plain.specs.declared.reply.Reply.TheVariants.{Done, Answered, Asked, Spent, Memory}
+use Rattle.xdb_plain.specs.declared.reply.Reply.TheVariants.{Done, Answered, Asked, NoSuch, Spent, Memory}
 use Rattle.xdb_plain.specs.declared.note.Note.{Note}
 use Rattle.xdb_plain.specs.declared.script.Cmd.{Cmd}
 use Rattle.xdb_plain.specs.declared.script.Cmd.TheVariants as cmd
@@ -30,6 +31,7 @@ pub record AtRest (map : PlainMap) (next asked : ℕ) (p : Plain) : Type 0 where
   pub same_next : p.next ≡ next
   pub same_asked : p.asked ≡ asked
   pub no_questions : p.questions ≡ []
+  pub no_snaps : p.snaps ≡ []
   pub no_loads : p.loads ≡ []
   pub no_files : p.known ≡ []
 
@@ -51,18 +53,24 @@ pub record Adds (old new : List Note) (by : Option By) (cmd : Cmd) : Type 0 wher
   pub is_block : (r : Run) → IsBlock r by cmd block
 
 -- a question for the value that a key has now
-abbrev pub is_get : Question → Bool
-is_get (Get key None) = true
-is_get _ = false
+abbrev pub is_get_now : Question → Bool
+is_get_now (Get key None) = true
+is_get_now _ = false
 
--- a commit, or a read that isn't in parts
-abbrev pub is_whole : Cmd → Bool
-is_whole (cmd.Commit form ops) = true
-is_whole (cmd.Ask question parted) = is_get question && not parted
-is_whole _ = false
+-- a question for the value that a key has at a snapshot
+abbrev pub is_get_at : Question → Bool
+is_get_at (Get key (Some at)) = true
+is_get_at _ = false
+
+-- a table that nobody says, a client's commit, or its read of a key that isn't in parts
+abbrev pub may_run : Option By → Cmd → Bool
+may_run None (cmd.Table table) = true
+may_run (Some by) (cmd.Commit form ops) = is_client by
+may_run (Some by) (cmd.Ask question false) = is_client by && is_get question
+may_run _ _ = false
 
 abbrev pub is_run : Line → Bool
-is_run line = by_client line.by && is_whole line.cmd
+is_run line = may_run line.by line.cmd
 
 -- the answer to such a question
 abbrev pub got : PlainMap → Question → Answer
@@ -102,6 +110,10 @@ opened ask by question = read_note ask by question (Asked ask)
 
 abbrev pub answered : ℕ → By → Question → Answer → Note
 answered ask by question answer = read_note ask by question (Answered answer)
+
+-- there is no snapshot of that name
+abbrev pub missed : By → Question → Note
+missed by question = read_note 0 by question NoSuch
 
 -- memory was wanting at the asking
 abbrev pub lacked : By → Question → Note

@@ -1,7 +1,6 @@
-pub mod Grammar
+pub mod Built
 pub mod Log
 pub mod Kept
 pub mod Ends
 pub mod Outcome
-pub mod Reading
 pub mod Codes

@@ -1,7 +1,14 @@
 -- What the steps of a call come to.
-use Rattle.std.specs.Prelude.{◌≡◌, ◌⊎◌, ℕ, ◌≤◌, Option, List, length, take}
+use Rattle.std.specs.Prelude.{◌≡◌, ◌⊎◌, ℕ, ◌≤◌, Option, Some, None, List, length, take}
 use Rattle.std.specs.Io.KnownBytes.{append_known}
-use Rattle.excisedb.specs.Ends.{IsReply, IsRefusal}
+use Rattle.xdb_plain.specs.Legal.{IsRight}
+use Rattle.xdb_plain.specs.Printed.{text_of}
+use Rattle.xdb_plain.specs.Runs.{IsRunOf}
+use Rattle.xdb_plain.specs.declared.note.Note.{Note}
+use Rattle.xdb_plain.specs.declared.script.Line.{Line}
+use Rattle.xdb_script.specs.declared.error.Why.TheVariants as why
+use Rattle.excisedb.specs.Built.{first_unbuilt}
+use Rattle.excisedb.specs.Ends.{IsReply, IsRefusal, refusal_text}
 use Rattle.excisedb.specs.declared.status.Status.{Status}
 use Rattle.excisedb.specs.declared.status.Status.TheVariants.{Done, Words, Script, ReadFault, WriteFault, Memory}
 
@@ -13,6 +20,12 @@ Replies bytes Words text = ⊥
 Replies bytes ReadFault text = ⊥
 Replies bytes WriteFault text = ⊥
 Replies bytes Memory text = ⊥
+
+-- A script gets this status and this text: that of a run, or the refusal of its first line that isn't built.
+abbrev pub RepliesTo : List Line → Status → List ℕ → Type 0
+RepliesTo lines Done text = (first_unbuilt lines ≡ None) × ((notes : List Note) × IsRight 1 1 notes × IsRunOf 1 1 lines notes × (text ≡ text_of notes))
+RepliesTo lines Script text = (line : ℕ) × (first_unbuilt lines ≡ Some line) × (text ≡ refusal_text (line, why.Verb))
+RepliesTo lines _ text = ⊥
 
 -- a part from the front of the text was written
 pub record IsPart (text : List ℕ) (old new : Option (List ℕ)) : Type 0 where

@@ -1,7 +1,7 @@
 //! A log-structured merge storage engine with ingest-and-excise, driven by scripts.
 #![tactic(auto)]
 
-mod reader;
+pub mod built;
 mod session;
 mod status;
 mod store;

@@ -7,7 +7,8 @@ ghost use Rattle.xdb_plain.specs.Runs.{first_run, AreBlocks, IsRunOf};
 ghost use Rattle.xdb_plain.specs.State.{opening};
 ghost use Rattle.xdb_plain.specs.declared.script.Cmd.TheVariants as cmd;
 ghost use Rattle.xdb_plain.specs.declared.act.Act.TheVariants as act;
-ghost use Rattle.excisedb.specs.Kept.{Adds, IsClean, is_run, is_get, IsCommitted, plain_note, read_note, opened, answered, lacked, got};
+ghost use Rattle.excisedb.specs.Built.{is_get};
+ghost use Rattle.excisedb.specs.Kept.{Adds, IsClean, is_run, is_get_now, is_get_at, IsCommitted, plain_note, read_note, opened, answered, lacked, got};
 
 use crate::store::Store;
 use std::alloc::{AllocError, Global};
@@ -94,6 +95,7 @@ impl Session {
         match (by, cmd) {
             (Some(by), Cmd::Commit { form, ops }) => self.commit(by, form, ops),
             (Some(by), Cmd::Ask { question, .. }) => self.ask(by, question),
+            (None, Cmd::Table { .. }) => Ok(()),
             _ => unreachable!(),
         }
     }
@@ -113,6 +115,31 @@ impl Session {
     fn ask(&mut self, by: By, question: Question) -> Result<(), AllocError>
         requires client { IsTrue (is_client by) }
         requires get { IsTrue (is_get question) }
+        ensures ok { OnOk result (Adds self.old self.new (Some by) (cmd.Ask question false)) }
+        ensures err { OnErr result (self.new ≡ self.old) }
+    {
+        match question {
+            Question::Get { at: Some(_), .. } => self.miss(by, question),
+            _ => self.read(by, question),
+        }
+    }
+
+    /// A read at a snapshot, of which none is there.
+    fn miss(&mut self, by: By, question: Question) -> Result<(), AllocError>
+        requires client { IsTrue (is_client by) }
+        requires at { IsTrue (is_get_at question) }
+        ensures ok { OnOk result (Adds self.old self.new (Some by) (cmd.Ask question false)) }
+        ensures err { OnErr result (self.new ≡ self.old) }
+    {
+        self.history.reserve(1)?;
+        let note = read_note(self.alloc, 0, by, question, Reply::NoSuch);
+        self.history.push(note);
+        Ok(())
+    }
+
+    fn read(&mut self, by: By, question: Question) -> Result<(), AllocError>
+        requires client { IsTrue (is_client by) }
+        requires get { IsTrue (is_get_now question) }
         ensures ok { OnOk result (Adds self.old self.new (Some by) (cmd.Ask question false)) }
         ensures err { OnErr result (self.new ≡ self.old) }
     {
@@ -159,7 +186,7 @@ fn asked(
     by: By,
     question: Question,
 ) -> Result<(Note, Note), Note>
-    requires { IsTrue (is_get question) }
+    requires { IsTrue (is_get_now question) }
     ensures read { IfOk result (λ notes. notes ≡ (opened ask by question, answered ask by question (got store.now question))) }
     ensures refused { IfErr result (λ note. note ≡ lacked by question) }
 {
@@ -199,7 +226,7 @@ fn plain_note(alloc: Global, by: By, act: Act, reply: Reply) -> Note
 }
 
 fn answer(store: &Store, question: &Question) -> Result<Answer, AllocError>
-    requires { IsTrue (is_get question.now) }
+    requires { IsTrue (is_get_now question.now) }
     ensures { IfOk result (λ answer. answer ≡ got store.now question.now) }
 {
     let Question::Get { key, .. } = question else {

@@ -23,28 +23,33 @@ fn call(
 
 #[test]
 fn replies(rt: HostRuntime) -> Result<(), Fail> {
-    let rows: [(&[u8], &[u8]); 5] = [
+    let rows: [(&[u8], &[u8]); 6] = [
         // the empty script
         (b"", b""),
-        // a put and a get
+        // the stored run
         (
-            b"c1 put a 1\nc1 get a\n",
-            b"c1 put a 1 -> done\nc1 get a -> value 1\n",
+            b"c1 put a 1\nc1 get a\nc1 del a\nc1 get a\n",
+            b"c1 put a 1 -> done\nc1 get a -> value 1\nc1 del a -> done\nc1 get a -> none\n",
         ),
-        // a get before the put, another client, and a last line without its line feed
+        // an empty line and a comment, another client, and a last line without its line feed
         (
-            b"c1 get a\nc2 put a x/1\nc1 get a",
+            b"c1 get a\nc2 put a x/1\n\n# n\nc1 get a",
             b"c1 get a -> none\nc2 put a x/1 -> done\nc1 get a -> value x/1\n",
         ),
         // the newest put of a key wins, and other keys are left alone
         (
-            b"c1 put a 1\nc16 put a 2\nc9 put b 3\nc1 get a\nc1 get b\n",
-            b"c1 put a 1 -> done\nc16 put a 2 -> done\nc9 put b 3 -> done\nc1 get a -> value 2\nc1 get b -> value 3\n",
+            b"c1 put a 1\nc16 put a 2\nc9 put b \"\"\nc1 get a\nc1 get b\n",
+            b"c1 put a 1 -> done\nc16 put a 2 -> done\nc9 put b \"\" -> done\nc1 get a -> value 2\nc1 get b -> value \"\"\n",
         ),
-        // words that stand for other things elsewhere
+        // operations of a batch act in their order
         (
-            b"c10 put put get\nc10 get put\n",
-            b"c10 put put get -> done\nc10 get put -> value get\n",
+            b"c1 batch set b 1 ; delspan a c ; set a %25\nc1 get a\nc1 get b\nc1 delspan a b\nc1 get a\n",
+            b"c1 batch set b 1 ; delspan a c ; set a %25 -> done\nc1 get a -> value %25\nc1 get b -> none\nc1 delspan a b -> done\nc1 get a -> none\n",
+        ),
+        // a table prints nothing, and no snapshot is there
+        (
+            b"table t1 set a 1\nc1 get a at s1\n",
+            b"c1 get a at s1 -> no-such\n",
         ),
     ];
     for (script, text) in rows {
@@ -56,33 +61,29 @@ fn replies(rt: HostRuntime) -> Result<(), Fail> {
 }
 
 #[test]
-fn malformed_scripts(rt: HostRuntime) -> Result<(), Fail> {
-    let scripts: [&[u8]; 20] = [
-        b"c1 del a\n",
-        b"\n",
-        b"c1 get a\n\nc1 get a\n",
-        b"# n\n",
-        b"c0 get a\n",
-        b"c17 get a\n",
-        b"c01 get a\n",
-        b"c get a\n",
-        b"C1 get a\n",
-        b"c1\n",
-        b"c1 get\n",
-        b"c1 get \n",
-        b"c1 get a b\n",
-        b"c1 put a\n",
-        b"c1 put a b c\n",
-        b"c1 put a \n",
-        b"c1  get a\n",
-        b" c1 get a\n",
-        b"c1 get a%20\n",
-        b"c1 get a\r\n",
+fn refusals(rt: HostRuntime) -> Result<(), Fail> {
+    let rows: [(&[u8], &[u8]); 12] = [
+        (
+            b"c1 get a\nc2 put a x/1\n\n# n\nc1 walk a",
+            b"line 5: verb\n",
+        ),
+        (b"c17 put a 1", b"line 1: who\n"),
+        (b"c1 put a", b"line 1: shape\n"),
+        (b"c1 put %61 1", b"line 1: token\n"),
+        (b"c1 delspan b b", b"line 1: range\n"),
+        (b"c1 load l1 t9", b"line 1: table\n"),
+        (b"table t1 set b 1 ; set a 2", b"line 1: order\n"),
+        (b"c1 get a\r\n", b"line 1: spaces\n"),
+        // what isn't built is refused behind the grammar's own refusals
+        (b"c1 get a\nc1 scan a b 1\ndb seal", b"line 2: verb\n"),
+        (b"c1 begin get a", b"line 1: verb\n"),
+        (b"table t set a 1\nc1 load l t", b"line 2: verb\n"),
+        (b"c1 scan a b 1\nc1 put a", b"line 2: shape\n"),
     ];
-    for script in scripts {
+    for (script, text) in rows {
         let (status, sink) = call(rt.alloc(), "run", script, (0, 0), 100)?;
         assert!(rt; status == Status::Script);
-        assert!(rt; sink.bytes() == b"form\n".as_slice());
+        assert!(rt; sink.bytes() == text);
     }
     Ok(())
 }
@@ -104,7 +105,7 @@ fn limits(rt: HostRuntime) -> Result<(), Fail> {
     let long = vec![in rt.alloc(); b'\n'; 1_048_577]?;
     let (status, sink) = call(rt.alloc(), "run", &long, (0, 0), 100)?;
     assert!(rt; status == Status::Script);
-    assert!(rt; sink.bytes() == b"form\n".as_slice());
+    assert!(rt; sink.bytes() == b"line 1048577: long\n".as_slice());
     Ok(())
 }
 

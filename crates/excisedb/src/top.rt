@@ -1,18 +1,22 @@
 //! From words and a script to what is written.
 ghost use Rattle.std.specs.Prelude.{◌≡◌, ◌≢◌, map, string_bytes, IfOk, IsTrue};
 ghost use Rattle.xdb_device.specs.Faults.{Rose};
-ghost use Rattle.excisedb.specs.Ends.{run_words, usage_text, form_text, Ends};
-ghost use Rattle.excisedb.specs.Outcome.{Replies, IsSent};
+ghost use Rattle.excisedb.specs.Ends.{run_words, usage_text, refusal_text, why_word, Ends};
+ghost use Rattle.excisedb.specs.Outcome.{Replies, RepliesTo, IsSent};
 
-use crate::reader::{self, MAX_SCRIPT};
+use crate::built::first_unbuilt;
 use crate::status::Status;
 use crate::{session, words};
+use itoa::Buffer;
 use std::alloc::{AllocError, Global};
 use xdb_device::{DevNo, Sink, Source, read_up_to, write_all};
+use xdb_plain::Script;
+use xdb_script::{ScriptForm, ScriptNo, Why, parse};
 
 const USAGE: &[u8] = b"usage: excisedb run | threads --workers N | gen --ops N --seed X\n";
 
-const FORM: &[u8] = b"form\n";
+/// The most bytes that are read: with one more than this a script is too long.
+const MOST: usize = 1_048_577;
 
 /// Runs the command that the words say, on the script that the source has, and writes its text.
 /// The whole text is made before the first byte is written.
@@ -36,7 +40,7 @@ pub fn top<S: Source, K: Sink>(
         return send(out, USAGE, Status::Words);
     }
     let mut bytes = Vec::new(alloc);
-    match read_up_to(script, &mut bytes, MAX_SCRIPT + 1) {
+    match read_up_to(script, &mut bytes, MOST) {
         Ok(_) => {}
         Err(DevNo::Failed) => return Status::ReadFault,
         Err(DevNo::Memory) => return Status::Memory,
@@ -51,12 +55,61 @@ pub fn top<S: Source, K: Sink>(
 fn reply_to(alloc: Global, bytes: &[u8]) -> Result<(Status, Vec<u8>), AllocError>
     ensures { IfOk result (λ reply. Replies bytes.now reply.0 reply.1.items) }
 {
-    match reader::read(alloc, bytes)? {
-        None => Ok((Status::Script, FORM.to_vec(alloc)?)),
-        Some(script) => {
-            let notes = session::run(alloc, script)?;
-            Ok((Status::Done, xdb_text::text(alloc, &notes)?))
+    match parse(alloc, bytes, ScriptForm::Run) {
+        Ok(script) => reply_to_script(alloc, script),
+        Err(ScriptNo::BadLine { line, why }) => {
+            let text = refusal(alloc, line, why)?;
+            Ok((Status::Script, text))
         }
+        Err(ScriptNo::Memory) => Err(AllocError),
+    }
+}
+
+/// The same of a script.
+fn reply_to_script(alloc: Global, script: Script) -> Result<(Status, Vec<u8>), AllocError>
+    ensures { IfOk result (λ reply. RepliesTo script reply.0 reply.1.items) }
+{
+    match first_unbuilt(&script) {
+        Some(line) => {
+            let text = refusal(alloc, line, Why::Verb)?;
+            Ok((Status::Script, text))
+        }
+        None => {
+            let notes = session::run(alloc, script)?;
+            let text = xdb_text::text(alloc, &notes)?;
+            Ok((Status::Done, text))
+        }
+    }
+}
+
+/// `line N: WHY`.
+fn refusal(alloc: Global, line: u64, why: Why) -> Result<Vec<u8>, AllocError>
+    ensures { IfOk result (λ text. text.items ≡ refusal_text (line, why)) }
+{
+    let mut text = b"line ".to_vec(alloc)?;
+    text.extend_from_slice(Buffer::new().format(line).as_bytes())?;
+    text.extend_from_slice(b": ")?;
+    text.extend_from_slice(why_word(why))?;
+    text.push(b'\n')?;
+    Ok(text)
+}
+
+fn why_word(why: Why) -> &'static [u8]
+    ensures { result.now ≡ why_word why }
+{
+    match why {
+        Why::Long => b"long",
+        Why::Spaces => b"spaces",
+        Why::Who => b"who",
+        Why::Verb => b"verb",
+        Why::Shape => b"shape",
+        Why::Token => b"token",
+        Why::Length => b"length",
+        Why::Name => b"name",
+        Why::Number => b"number",
+        Why::Range => b"range",
+        Why::Table => b"table",
+        Why::Order => b"order",
     }
 }
 

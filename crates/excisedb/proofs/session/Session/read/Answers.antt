@@ -3,7 +3,7 @@ use Rattle.xdb_history.specs.Recorded.{state_of}
 use Rattle.xdb_plain.specs.declared.note.Note.{Note}
 use Rattle.xdb_plain.specs.Steps.{MayStand}
 use Rattle.excisedb.proofs.SessionLaws.{Committed, Reads, reads, lacks, kept-roomy, one-more, two-more, state-pushed}
-use Rattle.excisedb.proofs.session.Session.ask.Goals as goal
+use Rattle.excisedb.proofs.session.Session.read.Goals as goal
 
 pub push-requires-clause-stands : goal.push-requires-clause-stands
 push-requires-clause-stands c =
