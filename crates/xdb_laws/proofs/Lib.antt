@@ -1,0 +1,5 @@
+-- The laws, by topic.
+pub mod ImageLaws
+pub mod AnswerLaws
+pub mod CommitLaws
+pub mod PartLaws
