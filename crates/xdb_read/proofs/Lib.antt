@@ -1,0 +1,4 @@
+-- The laws, by topic.
+mod DecidingLaws
+mod ListedLaws
+mod PlaceLaws

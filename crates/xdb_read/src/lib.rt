@@ -1,0 +1,13 @@
+//! Work on a question: what is handed out for it, and what answers it.
+#![tactic(auto)]
+
+mod answering;
+mod moves;
+mod parts;
+mod sight;
+
+pub use answering::answer;
+pub use parts::{ReadDone, ReadParts, ReadWork};
+
+#[cfg(test)]
+mod tests;
