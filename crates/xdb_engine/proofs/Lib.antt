@@ -1,0 +1,7 @@
+-- The laws, by topic.
+pub mod ListLaws
+pub mod QuestionLaws
+pub mod StateLaws
+pub mod CommitSteps
+pub mod AskSteps
+pub mod SettleSteps

@@ -1,0 +1,7 @@
+-- What is seen of an engine, what its calls do to that, and what it keeps.
+pub mod Notes
+pub mod Questions
+pub mod Commits
+pub mod Asks
+pub mod Seen
+pub mod Stands
