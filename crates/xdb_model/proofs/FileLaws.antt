@@ -14,6 +14,7 @@ use Rattle.xdb_plain.specs.Legal.{Legal, after_all}
 use Rattle.xdb_plain.specs.Outcomes.{Outcome, succeeds, begins, fails, cancels, outcome}
 use Rattle.xdb_plain.specs.Replies.{may_reply, same_reply, plan_now, load_open_replies, or_reply, overlap_reply, lacks_numbers, lacks_files}
 use Rattle.xdb_plain.specs.State.{Plain, Load, Phase, being_opened, waiting, is_in, Job, JobKind, flush_of, compaction_of, opening, open_loads, found_load, without_job, without_load, same_name}
+use Rattle.xdb_plain.specs.Steps.{MayStand}
 use Rattle.xdb_plain.specs.Tables.{TableOps}
 use Rattle.xdb_plain.specs.declared.act.Act.{Act}
 use Rattle.xdb_plain.specs.declared.act.Act.TheVariants as act
@@ -25,7 +26,7 @@ use Rattle.xdb_model.specs.Numbered.{FilesFit}
 
 -- ---- the next number never falls
 
-file-later : (p : Plain) (a : Act) (o : Outcome) (e : Option Changes) → p.file ≤ file_after p a o e
+pub file-later : (p : Plain) (a : Act) (o : Outcome) (e : Option Changes) → p.file ≤ file_after p a o e
 file-later p act.FlushTake succeeds e = omega arith
 file-later p (act.CompactTake which) succeeds e = omega arith
 file-later p (act.LoadOpen load tables span) begins e = omega arith
@@ -66,7 +67,7 @@ jobs-without : (file job : ℕ) (jobs : List Job) → JobsBelow file jobs → Jo
 jobs-without file job [] h = tt
 jobs-without file job (x ∷ jobs) h = jobs-kept file x (without_job job jobs) (not (eqb x.num job)) h.0 (jobs-without file job jobs h.1)
 
-same-numbers : (load : List ℕ) (span : Bounds) (kind : JobKind) → job_numbers (cancelled_kind load span kind) ≡ job_numbers kind
+pub same-numbers : (load : List ℕ) (span : Bounds) (kind : JobKind) → job_numbers (cancelled_kind load span kind) ≡ job_numbers kind
 same-numbers load span (flush_of group) = refl
 same-numbers load span (compaction_of c) = refl
 
@@ -213,13 +214,16 @@ loads-by p by act.FlushTake succeeds e r is may h = loads-later p.file (p.file +
 loads-by p by (act.CompactTake which) succeeds e r is may h = loads-later p.file (p.file + 64) p.loads (omega arith) h
 loads-by p by _ _ e r is may h = h
 
+pub files-step : (p : Plain) (note : Note) → MayStand p note → FilesFit p → FilesFit (after p note)
+files-step p note may fit = record {
+  of_jobs = jobs-by p note.act (outcome note.reply) note.edit fit.of_jobs;
+  of_loads = loads-by p note.by note.act (outcome note.reply) note.edit note.reply refl may.reply fit.of_loads;
+}
+
 files-all : (p : Plain) (notes : List Note) → Legal p notes → FilesFit p → FilesFit (after_all p notes)
 files-all p [] legal fit = fit
 files-all p (note ∷ notes) legal fit =
-    files-all (after p note) notes legal.1 (record {
-      of_jobs = jobs-by p note.act (outcome note.reply) note.edit fit.of_jobs;
-      of_loads = loads-by p note.by note.act (outcome note.reply) note.edit note.reply refl legal.0.reply fit.of_loads;
-    })
+    files-all (after p note) notes legal.1 (files-step p note legal.0 fit)
 
 pub files-fit : (first_seq first_file : ℕ) (notes : List Note) → Legal (opening first_seq first_file) notes → FilesFit (after_all (opening first_seq first_file) notes)
 files-fit first_seq first_file notes legal = files-all (opening first_seq first_file) notes legal (record { of_jobs = tt; of_loads = tt })

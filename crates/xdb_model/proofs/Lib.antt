@@ -8,4 +8,6 @@ pub mod ProgressLaws
 pub mod QuestionLaws
 pub mod RefusalLaws
 pub mod TakenLaws
+pub mod LoadLaws
+pub mod KnownLaws
 pub mod ExcisedLaws

@@ -164,7 +164,7 @@ by-show p show.Levels n = refl
 by-show p show.Counts n = refl
 by-show p show.Snaps n = refl
 
-only-reap : (p : Plain) (by : By) (a : Act) (n : ℕ) → list_any (same_reply (reply.Took n)) (may_reply p by a) ≡ true → a ≡ act.Reap
+pub only-reap : (p : Plain) (by : By) (a : Act) (n : ℕ) → list_any (same_reply (reply.Took n)) (may_reply p by a) ≡ true → a ≡ act.Reap
 only-reap p by act.Reap n e = refl
 only-reap p by (act.Commit form ops) n e = absurd (false≢true (sym (by-commit p (length ops) n (fence_touched ops p.loads)) ∙ e))
 only-reap p by act.Seal n e = absurd (false≢true (sym (either n (is_empty p.active.ops) (reply.Nothing ∷ []) (reply.Group p.active.num ∷ []) refl refl) ∙ e))
@@ -198,7 +198,7 @@ first-kept : (test : ℕ → Bool) (x : ℕ) (xs : List ℕ) (n : ℕ) (others :
 first-kept test x xs n others true is e more = subst (λ y. test y ≡ true) (first-is e) is
 first-kept test x xs n others false is e more = more e
 
-first-passes : (test : ℕ → Bool) (xs : List ℕ) (n : ℕ) (others : List ℕ) → filter test xs ≡ n ∷ others → test n ≡ true
+pub first-passes : (test : ℕ → Bool) (xs : List ℕ) (n : ℕ) (others : List ℕ) → filter test xs ≡ n ∷ others → test n ≡ true
 first-passes test [] n others e = absurd (cc)
 first-passes test (x ∷ xs) n others e = first-kept test x xs n others (test x) refl e (first-passes test xs n others)
 

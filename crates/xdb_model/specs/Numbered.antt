@@ -1,11 +1,11 @@
 -- What the groups and the jobs of a state keep.
-use Rattle.std.specs.Prelude.{◌≡◌, ℕ, ◌+◌, ◌<◌, ◌≤◌, false, List, [], ◌∷◌, length, map, IsTrue}
+use Rattle.std.specs.Prelude.{◌≡◌, ℕ, ◌+◌, ◌<◌, ◌≤◌, ◌&&◌, false, List, [], ◌∷◌, length, map, IsTrue}
 use Rattle.std.specs.List.{AllByRecursion}
 use Rattle.xdb_key.specs.Groups.{Group}
 use Rattle.xdb_edit.specs.Versions.{are_sorted}
-use Rattle.xdb_plain.specs.Counts.{job_numbers, is_among}
+use Rattle.xdb_plain.specs.Counts.{job_numbers, job_owns, load_owns, is_among}
 use Rattle.xdb_plain.specs.Edits.{is_empty}
-use Rattle.xdb_plain.specs.State.{Plain, groups}
+use Rattle.xdb_plain.specs.State.{Plain, groups, is_open}
 
 -- the groups' numbers go up by one, from this one on
 abbrev pub AreCounted : ℕ → List Group → Type 0
@@ -48,3 +48,9 @@ pub record LevelsFit (p : Plain) : Type 0 where
 abbrev pub AreDistinct : List ℕ → Type 0
 AreDistinct [] = Unit {0}
 AreDistinct (n ∷ ns) = (is_among n ns ≡ false) × AreDistinct ns
+
+-- what was taken lies below the next number, and no running job and no open load has it
+pub record TakenFit (p : Plain) : Type 0 where
+  pub below : AllByRecursion (λ n. n < p.file) p.taken
+  pub of_jobs : AllByRecursion (λ n. AllByRecursion (λ j. job_owns n j ≡ false) p.jobs) p.taken
+  pub of_loads : AllByRecursion (λ n. AllByRecursion (λ l. (is_open l && load_owns n l) ≡ false) p.loads) p.taken

@@ -3,7 +3,7 @@ ghost use Rattle.std.specs.Prelude.{ℕ, List};
 ghost use Rattle.xdb_plain.specs.Legal.{IsLegal, after_all};
 ghost use Rattle.xdb_plain.specs.State.{opening};
 ghost use Rattle.xdb_plain.specs.declared.note.Note.{Note};
-ghost use Rattle.xdb_model.specs.Numbered.{GroupsFit, JobsFit, QuestionsFit, FilesFit, LevelsFit, AreDistinct};
+ghost use Rattle.xdb_model.specs.Numbered.{GroupsFit, JobsFit, QuestionsFit, FilesFit, LevelsFit, AreDistinct, TakenFit};
 
 /// The groups' numbers go up by one from the oldest to the active one, and every sealed group holds
 /// operations.
@@ -41,4 +41,10 @@ pub fn levels_are_sorted()
 pub fn numbers_are_taken_once()
     ensures { (first_seq first_file : ℕ) (notes : List Note) → IsLegal first_seq first_file notes
         → AreDistinct (after_all (opening first_seq first_file) notes).taken }
+{}
+
+/// Each number that was taken lies below the next one, and no running job and no open load has it.
+pub fn taken_numbers_are_given_to_none()
+    ensures { (first_seq first_file : ℕ) (notes : List Note) → IsLegal first_seq first_file notes
+        → TakenFit (after_all (opening first_seq first_file) notes) }
 {}

@@ -1,0 +1,272 @@
+-- Known numbers lie below the next one, and no running job or open load has a number that was taken.
+use Rattle.std.proofs.Common.{◌≡◌, ℕ, suc, zero, ◌+◌, ◌<◌, ◌≤◌, Bool, true, false, cond, not, eqb, leb, ltb, ◌&&◌, List, [], ◌∷◌, ◌++◌, length, map, filter, Option, Some, None, refl, sym, subst, arith}
+use Rattle.std.proofs.lemmas.Bool.{and_parts, or_parts, not-true, ltb-true, lt-leb, and_left}
+use Rattle.std.specs.List.{list_any, list_all, find, range_with_len, AllByRecursion}
+use Rattle.xdb_key.specs.Bounds.{Bounds}
+use Rattle.xdb_key.specs.Groups.{Group}
+use Rattle.xdb_edit.specs.Changes.{Changes}
+use Rattle.xdb_edit.specs.Plans.{Planned}
+use Rattle.xdb_plain.specs.Changes.{after, known_after, taken_after, file_after, new_files, jobs_after, new_flush, new_compaction, cancelled_by, cancelled_job, span_of_load}
+use Rattle.xdb_plain.specs.Counts.{with_number, with_numbers, is_within, is_among, is_dead, is_owned, job_owns, load_owns, job_numbers, count}
+use Rattle.xdb_plain.specs.Legal.{Legal, after_all}
+use Rattle.xdb_plain.specs.Outcomes.{Outcome, succeeds, fails, cancels, outcome}
+use Rattle.xdb_plain.specs.Replies.{plan_now}
+use Rattle.xdb_plain.specs.State.{Plain, Load, Job, JobKind, flush_of, compaction_of, opening, open_loads, found_load, found_job, without_job, same_name}
+use Rattle.xdb_plain.specs.Steps.{MayStand, HasEdit, FitsEdit, PutsJob, InstallsLoad, FitsTried, FitsJobTried, FitsLoadTried, are_rising_numbers}
+use Rattle.xdb_plain.specs.declared.act.Act.{Act}
+use Rattle.xdb_plain.specs.declared.act.Act.TheVariants as act
+use Rattle.xdb_plain.specs.declared.note.Note.{Note}
+use Rattle.xdb_plain.specs.declared.reply.Reply.{Reply}
+use Rattle.xdb_plain.specs.declared.reply.Reply.TheVariants as reply
+use Rattle.xdb_model.proofs.CauseLaws.{replies, took}
+use Rattle.xdb_model.proofs.FileLaws.{file-later, files-step, same-numbers}
+use Rattle.xdb_model.proofs.LoadLaws.{AreNamedOnce, LoadsFree, once-by, free-by, none-open}
+use Rattle.xdb_model.proofs.TakenLaws.{only-reap, first-passes}
+use Rattle.xdb_model.specs.Numbered.{FilesFit, TakenFit}
+
+-- ---- numbers below another one
+
+abbrev pub Below : ℕ → List ℕ → Type 0
+Below file ns = AllByRecursion (λ n. n < file) ns
+
+below-later : (low high : ℕ) (ns : List ℕ) → low ≤ high → Below low ns → Below high ns
+below-later low high [] le h = tt
+below-later low high (n ∷ ns) le h = let first = h.0 in (omega arith, below-later low high ns le h.1)
+
+below-append : (file : ℕ) (ms ns : List ℕ) → Below file ms → Below file ns → Below file (ms ++ ns)
+below-append file [] ns h k = k
+below-append file (m ∷ ms) ns h k = (h.0, below-append file ms ns h.1 k)
+
+below-put : (file n m : ℕ) (ms : List ℕ) (below same : Bool) → n < file → m < file → Below file ms → Below file (with_number n ms) → Below file (cond below (n ∷ m ∷ ms) (cond same (m ∷ ms) (m ∷ with_number n ms)))
+below-put file n m ms true same is first h more = (is, (first, h))
+below-put file n m ms false true is first h more = (first, h)
+below-put file n m ms false false is first h more = (first, more)
+
+below-with : (file n : ℕ) (ms : List ℕ) → n < file → Below file ms → Below file (with_number n ms)
+below-with file n [] is h = (is, tt)
+below-with file n (m ∷ ms) is h = below-put file n m ms (ltb n m) (eqb n m) is h.0 h.1 (below-with file n ms is h.1)
+
+below-with_all : (file : ℕ) (ns ms : List ℕ) → Below file ns → Below file ms → Below file (with_numbers ns ms)
+below-with_all file [] ms h k = k
+below-with_all file (n ∷ ns) ms h k = below-with_all file ns (with_number n ms) h.1 (below-with file n ms h.0 k)
+
+below-range : (file first len : ℕ) → first + len ≤ file → Below file (range_with_len first len)
+below-range file first zero h = tt
+below-range file first (suc len) h = (omega arith, below-range file (first + 1) len (omega arith))
+
+below-within : (file first len : ℕ) (ns : List ℕ) → first + len ≤ file → list_all (is_within first len) ns ≡ true → Below file ns
+below-within file first len [] le all = tt
+below-within file first len (n ∷ ns) le all =
+    let parts = and_parts (is_within first len n) (list_all (is_within first len) ns) all in
+    let under = ltb-true n (first + len) (and_parts (leb first n) (ltb n (first + len)) parts.0).1 in
+    (omega arith, below-within file first len ns le parts.1)
+
+-- ---- what is found keeps what all keep
+
+found-kept : {A : Type 0} (P : A → Type 0) (y x : A) (rest : Option A) (t : Bool) → cond t (Some y) rest ≡ Some x → P y → (rest ≡ Some x → P x) → P x
+found-kept P y x rest true e is more = let same : y ≡ x = cc in subst P same is
+found-kept P y x rest false e is more = more e
+
+found-all : {A : Type 0} (P : A → Type 0) (test : A → Bool) (xs : List A) (x : A) → find test xs ≡ Some x → AllByRecursion P xs → P x
+found-all P test [] x e h = absurd (cc)
+found-all P test (y ∷ ys) x e h = found-kept P y x (find test ys) (test y) e h.0 (λ f. found-all P test ys x f h.1)
+
+-- ---- an edit's new files
+
+put-files : (file : ℕ) (o : Option Job) (e : Changes) → PutsJob o e → ((j : Job) → o ≡ Some j → j.first + job_numbers j.kind ≤ file) → Below file e.new_backings
+put-files file None e is low = absurd is
+put-files file (Some j) e is low = by-kind j.first j.num j.kind e is (low j refl)
+  where
+    by-kind : (first num : ℕ) (kind : JobKind) (e : Changes) → PutsJob (Some (record { num = num; first = first; kind = kind })) e → first + job_numbers kind ≤ file → Below file e.new_backings
+    by-kind first num (flush_of group) e is low = subst (Below file) (sym is.new_backings) (omega arith, tt)
+    by-kind first num (compaction_of c) e is low =
+        let few = is.few in
+        subst (Below file) (sym is.new_backings) (below-range file first (length e.added) (omega arith))
+
+install-files : (p : Plain) (o : Option Load) (e : Changes) → InstallsLoad p o e → ((l : Load) → o ≡ Some l → l.first + length l.tables ≤ p.file) → Below p.file e.new_backings
+install-files p None e is low = absurd is
+install-files p (Some l) e is low = subst (Below p.file) (sym is.new_backings) (below-range p.file l.first (length l.tables) (low l refl))
+
+edit-files : (p : Plain) (a : Act) (o : Option Changes) → FilesFit p → HasEdit p a o → Below p.file (new_files o)
+edit-files p a None fit has = absurd has
+edit-files p (act.Put job) (Some e) fit has =
+    put-files p.file (found_job job p.jobs) e has.1 (λ j found. found-all (λ (x : Job). x.first + job_numbers x.kind ≤ p.file) (λ (x : Job). eqb x.num job) p.jobs j found fit.of_jobs)
+edit-files p (act.Install load) (Some e) fit has =
+    install-files p (found_load load p.loads) e has.1 (λ l found. found-all (λ (x : Load). x.first + length x.tables ≤ p.file) (λ (x : Load). same_name x.name load) p.loads l found fit.of_loads)
+edit-files p _ (Some e) fit has = absurd has.1
+
+files-by : (p : Plain) (a : Act) (r : Reply) (o : Option Changes) → FilesFit p → FitsEdit p a r o → Below p.file (new_files o)
+files-by p a reply.Installed o fit fits = edit-files p a o fit fits
+files-by p a _ o fit fits = subst (λ (x : Option Changes). Below p.file (new_files x)) (sym fits) tt
+
+-- ---- the tried numbers
+
+job-tried : (file : ℕ) (o : Option Job) (tried : List ℕ) → FitsJobTried o tried → ((j : Job) → o ≡ Some j → j.first + job_numbers j.kind ≤ file) → Below file tried
+job-tried file None tried fits low = subst (Below file) (sym fits) tt
+job-tried file (Some j) tried fits low =
+    below-within file j.first (job_numbers j.kind) tried (low j refl) (and_parts (are_rising_numbers tried) (list_all (is_within j.first (job_numbers j.kind)) tried) fits).1
+
+load-tried : (file : ℕ) (o : Option Load) (tried : List ℕ) → FitsLoadTried o tried → ((l : Load) → o ≡ Some l → l.first + length l.tables ≤ file) → Below file tried
+load-tried file None tried fits low = subst (Below file) (sym fits) tt
+load-tried file (Some l) tried fits low =
+    below-within file l.first (length l.tables) tried (low l refl) (and_parts (are_rising_numbers tried) (list_all (is_within l.first (length l.tables)) tried) fits).1
+
+tried-by : (p : Plain) (a : Act) (o : Outcome) (tried : List ℕ) → FilesFit p → FitsTried p a o tried → Below p.file tried
+tried-by p (act.Build job) fails tried fit fits =
+    job-tried p.file (found_job job p.jobs) tried fits (λ j found. found-all (λ (x : Job). x.first + job_numbers x.kind ≤ p.file) (λ (x : Job). eqb x.num job) p.jobs j found fit.of_jobs)
+tried-by p (act.Put job) cancels tried fit fits =
+    job-tried p.file (found_job job p.jobs) tried fits (λ j found. found-all (λ (x : Job). x.first + job_numbers x.kind ≤ p.file) (λ (x : Job). eqb x.num job) p.jobs j found fit.of_jobs)
+tried-by p (act.LoadOpen load tables span) fails tried fit fits =
+    load-tried p.file (found_load load p.loads) tried fits (λ l found. found-all (λ (x : Load). x.first + length x.tables ≤ p.file) (λ (x : Load). same_name x.name load) p.loads l found fit.of_loads)
+tried-by p _ _ tried fit fits = subst (Below p.file) (sym fits) tt
+
+known-by : (p : Plain) (note : Note) → MayStand p note → FilesFit p → Below p.file p.known → Below (file_after p note.act (outcome note.reply) note.edit) (known_after p note)
+known-by p note may fit h =
+    below-later p.file (file_after p note.act (outcome note.reply) note.edit) (known_after p note) (file-later p note.act (outcome note.reply) note.edit)
+    (below-with_all p.file (new_files note.edit ++ note.tried) p.known
+    (below-append p.file (new_files note.edit) note.tried (files-by p note.act note.reply note.edit fit may.edit) (tried-by p note.act (outcome note.reply) note.tried fit may.tried))
+    h)
+
+-- ---- who has a number
+
+-- not from that number on
+not-within : (file len n : ℕ) → n < file → is_within file len n ≡ false
+not-within file len n low = and_left (leb file n) (ltb n (file + len)) (lt-leb file n low)
+
+abbrev pub JobFree : ℕ → Job → Type 0
+JobFree n j = job_owns n j ≡ false
+
+abbrev pub JobsFree : ℕ → List Job → Type 0
+JobsFree n jobs = AllByRecursion (JobFree n) jobs
+
+jobs-push : (n : ℕ) (jobs : List Job) (j : Job) → JobsFree n jobs → JobFree n j → JobsFree n (jobs ++ j ∷ [])
+jobs-push n [] j h is = (is, tt)
+jobs-push n (x ∷ jobs) j h is = (h.0, jobs-push n jobs j h.1 is)
+
+jobs-none : (n : ℕ) (jobs : List Job) → JobsFree n jobs → JobsFree n (jobs ++ [])
+jobs-none n [] h = tt
+jobs-none n (x ∷ jobs) h = (h.0, jobs-none n jobs h.1)
+
+jobs-kept : (n : ℕ) (x : Job) (rest : List Job) (t : Bool) → JobFree n x → JobsFree n rest → JobsFree n (cond t (x ∷ rest) rest)
+jobs-kept n x rest true is h = (is, h)
+jobs-kept n x rest false is h = h
+
+jobs-without : (n job : ℕ) (jobs : List Job) → JobsFree n jobs → JobsFree n (without_job job jobs)
+jobs-without n job [] h = tt
+jobs-without n job (x ∷ jobs) h = jobs-kept n x (without_job job jobs) (not (eqb x.num job)) h.0 (jobs-without n job jobs h.1)
+
+jobs-cancelled : (n : ℕ) (load : List ℕ) (span : Bounds) (jobs : List Job) → JobsFree n jobs → JobsFree n (map (cancelled_job load span) jobs)
+jobs-cancelled n load span [] h = tt
+jobs-cancelled n load span (x ∷ jobs) h =
+    (subst (λ len. is_within x.first len n ≡ false) (sym (same-numbers load span x.kind)) h.0, jobs-cancelled n load span jobs h.1)
+
+jobs-installed : (n : ℕ) (load : List ℕ) (span : Option Bounds) (jobs : List Job) → JobsFree n jobs → JobsFree n (cancelled_by load span jobs)
+jobs-installed n load None jobs h = h
+jobs-installed n load (Some span) jobs h = jobs-cancelled n load span jobs h
+
+jobs-flush : (n : ℕ) (p : Plain) (gs : List Group) → n < p.file → JobsFree n p.jobs → JobsFree n (p.jobs ++ new_flush p gs)
+jobs-flush n p [] low h = jobs-none n p.jobs h
+jobs-flush n p (g ∷ gs) low h = jobs-push n p.jobs _ h (not-within p.file 1 n low)
+
+jobs-compaction : (n : ℕ) (p : Plain) (plan : Option Planned) → n < p.file → JobsFree n p.jobs → JobsFree n (p.jobs ++ new_compaction p plan)
+jobs-compaction n p None low h = jobs-none n p.jobs h
+jobs-compaction n p (Some plan) low h = jobs-push n p.jobs _ h (not-within p.file 64 n low)
+
+jobs-by : (n : ℕ) (p : Plain) (a : Act) (o : Outcome) → n < p.file → JobsFree n p.jobs → JobsFree n (jobs_after p a o)
+jobs-by n p act.FlushTake succeeds low h = jobs-flush n p p.sealed low h
+jobs-by n p (act.CompactTake which) succeeds low h = jobs-compaction n p (plan_now p which) low h
+jobs-by n p (act.Put job) succeeds low h = jobs-without n job p.jobs h
+jobs-by n p (act.Put job) cancels low h = jobs-without n job p.jobs h
+jobs-by n p (act.Build job) fails low h = jobs-without n job p.jobs h
+jobs-by n p (act.Install load) succeeds low h = jobs-installed n load (span_of_load p load) p.jobs h
+jobs-by n p _ _ low h = h
+
+all-jobs : (p : Plain) (a : Act) (o : Outcome) (ns : List ℕ) → Below p.file ns → AllByRecursion (λ n. JobsFree n p.jobs) ns → AllByRecursion (λ n. JobsFree n (jobs_after p a o)) ns
+all-jobs p a o [] low h = tt
+all-jobs p a o (n ∷ ns) low h = (jobs-by n p a o low.0 h.0, all-jobs p a o ns low.1 h.1)
+
+all-loads : (p : Plain) (note : Note) (ns : List ℕ) → MayStand p note → AreNamedOnce p.loads → Below p.file ns → AllByRecursion (λ n. LoadsFree n p.loads) ns → AllByRecursion (λ n. LoadsFree n (after p note).loads) ns
+all-loads p note [] may once low h = tt
+all-loads p note (n ∷ ns) may once low h =
+    (free-by n p note.by note.act (outcome note.reply) note.reply refl may.reply (λ len. not-within p.file len n low.0) once h.0, all-loads p note ns may once low.1 h.1)
+
+all-push : (P : ℕ → Type 0) (ns : List ℕ) (n : ℕ) → AllByRecursion P ns → P n → AllByRecursion P (ns ++ n ∷ [])
+all-push P [] n h is = (is, tt)
+all-push P (m ∷ ns) n h is = (h.0, all-push P ns n h.1 is)
+
+-- ---- the number that is taken
+
+-- the first that passes is one of them
+first-kept : (P : ℕ → Type 0) (test : ℕ → Bool) (x : ℕ) (xs : List ℕ) (n : ℕ) (others : List ℕ) (t : Bool) → cond t (x ∷ filter test xs) (filter test xs) ≡ n ∷ others → P x → (filter test xs ≡ n ∷ others → P n) → P n
+first-kept P test x xs n others true e is more = let same : x ≡ n = cc in subst P same is
+first-kept P test x xs n others false e is more = more e
+
+first-all : (P : ℕ → Type 0) (test : ℕ → Bool) (xs : List ℕ) (n : ℕ) (others : List ℕ) → filter test xs ≡ n ∷ others → AllByRecursion P xs → P n
+first-all P test [] n others e h = absurd (cc)
+first-all P test (x ∷ xs) n others e h = first-kept P test x xs n others (test x) e h.0 (λ f. first-all P test xs n others f h.1)
+
+none-owns : (n : ℕ) (jobs : List Job) → list_any (job_owns n) jobs ≡ false → JobsFree n jobs
+none-owns n [] h = tt
+none-owns n (j ∷ jobs) h = let parts = or_parts (job_owns n j) (list_any (job_owns n) jobs) h in (parts.0, none-owns n jobs parts.1)
+
+dead-unowned : (p : Plain) (n : ℕ) → is_dead p n ≡ true → is_owned p n ≡ false
+dead-unowned p n e =
+    let front = and_parts (eqb (count p n) 0 && not (is_owned p n)) (not (is_among n p.taken)) e in
+    not-true (is_owned p n) (and_parts (eqb (count p n) 0) (not (is_owned p n)) front.0).1
+
+dead-open : (p : Plain) (n : ℕ) → is_dead p n ≡ true → LoadsFree n p.loads
+dead-open p n e = none-open n p.loads (or_parts (list_any (load_owns n) (open_loads p.loads)) (list_any (job_owns n) p.jobs) (dead-unowned p n e)).0
+
+dead-free : (p : Plain) (n : ℕ) → is_dead p n ≡ true → JobsFree n p.jobs
+dead-free p n e = none-owns n p.jobs (or_parts (list_any (load_owns n) (open_loads p.loads)) (list_any (job_owns n) p.jobs) (dead-unowned p n e)).1
+
+-- ---- over a whole history
+
+record Fit (p : Plain) : Type 0 where
+  files : FilesFit p
+  once : AreNamedOnce p.loads
+  known : Below p.file p.known
+  taken : TakenFit p
+
+taken-below : (p : Plain) (note : Note) (r : Reply) → note.reply ≡ r → MayStand p note → Fit p → Below p.file (taken_after p.taken r)
+taken-below p note (reply.Took n) is may fit =
+    let reaps = only-reap p note.by note.act n (replies p note note.act (reply.Took n) may refl is) in
+    let first = took p note n may reaps is in
+    all-push (λ m. m < p.file) p.taken n fit.taken.below (first-all (λ m. m < p.file) (is_dead p) p.known n first.0 first.1 fit.known)
+taken-below p note _ is may fit = fit.taken.below
+
+taken-jobs : (p : Plain) (note : Note) (r : Reply) → note.reply ≡ r → MayStand p note → Fit p → AllByRecursion (λ n. JobsFree n p.jobs) (taken_after p.taken r)
+taken-jobs p note (reply.Took n) is may fit =
+    let reaps = only-reap p note.by note.act n (replies p note note.act (reply.Took n) may refl is) in
+    let first = took p note n may reaps is in
+    all-push (λ m. JobsFree m p.jobs) p.taken n fit.taken.of_jobs (dead-free p n (first-passes (is_dead p) p.known n first.0 first.1))
+taken-jobs p note _ is may fit = fit.taken.of_jobs
+
+taken-loads : (p : Plain) (note : Note) (r : Reply) → note.reply ≡ r → MayStand p note → Fit p → AllByRecursion (λ n. LoadsFree n p.loads) (taken_after p.taken r)
+taken-loads p note (reply.Took n) is may fit =
+    let reaps = only-reap p note.by note.act n (replies p note note.act (reply.Took n) may refl is) in
+    let first = took p note n may reaps is in
+    all-push (λ m. LoadsFree m p.loads) p.taken n fit.taken.of_loads (dead-open p n (first-passes (is_dead p) p.known n first.0 first.1))
+taken-loads p note _ is may fit = fit.taken.of_loads
+
+fit-after : (p : Plain) (note : Note) → MayStand p note → Fit p → Fit (after p note)
+fit-after p note may fit =
+    let below = taken-below p note note.reply refl may fit in
+    record {
+      files = files-step p note may fit.files;
+      once = once-by p note.by note.act (outcome note.reply) note.reply refl may.reply fit.once;
+      known = known-by p note may fit.files fit.known;
+      taken = record {
+        below = below-later p.file (file_after p note.act (outcome note.reply) note.edit) (taken_after p.taken note.reply) (file-later p note.act (outcome note.reply) note.edit) below;
+        of_jobs = all-jobs p note.act (outcome note.reply) (taken_after p.taken note.reply) below (taken-jobs p note note.reply refl may fit);
+        of_loads = all-loads p note (taken_after p.taken note.reply) may fit.once below (taken-loads p note note.reply refl may fit);
+      };
+    }
+
+fit-all : (p : Plain) (notes : List Note) → Legal p notes → Fit p → Fit (after_all p notes)
+fit-all p [] legal fit = fit
+fit-all p (note ∷ notes) legal fit = fit-all (after p note) notes legal.1 (fit-after p note legal.0 fit)
+
+pub taken-fit : (first_seq first_file : ℕ) (notes : List Note) → Legal (opening first_seq first_file) notes → TakenFit (after_all (opening first_seq first_file) notes)
+taken-fit first_seq first_file notes legal =
+    (fit-all (opening first_seq first_file) notes legal (record { files = record { of_jobs = tt; of_loads = tt }; once = tt; known = tt; taken = record { below = tt; of_jobs = tt; of_loads = tt } })).taken
