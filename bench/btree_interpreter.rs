@@ -1,5 +1,5 @@
-//! A plain interpreter of scripts over an ordered map, as a yardstick: `put`, `del`, `delspan`, `batch` and `get`.
-//! It takes well-formed scripts alone. Build: `rustc -O bench/btree_interpreter.rs -o /tmp/btree_interpreter`.
+//! A plain interpreter of scripts over an ordered map, as a yardstick: `put`, `del`, `delspan`, `batch`, `get`, `scan`
+//! and `rscan`. It takes well-formed scripts alone. Build: `rustc -O bench/btree_interpreter.rs -o /tmp/btree_interpreter`.
 use std::collections::BTreeMap;
 use std::io::{self, Read, Write};
 
@@ -57,6 +57,17 @@ fn act(map: &mut BTreeMap<Vec<u8>, Vec<u8>>, verb: &[u8], operands: &[&[u8]]) {
     }
 }
 
+fn tell<'a>(pairs: impl Iterator<Item = (&'a Vec<u8>, &'a Vec<u8>)>, most: &[u8], out: &mut Vec<u8>) {
+    let most = std::str::from_utf8(most).unwrap().parse().unwrap();
+    out.extend_from_slice(b"found");
+    for (key, value) in pairs.take(most) {
+        out.push(b' ');
+        spell(key, out);
+        out.push(b'=');
+        spell(value, out);
+    }
+}
+
 fn main() -> io::Result<()> {
     let mut script = Vec::new();
     io::stdin().read_to_end(&mut script)?;
@@ -77,6 +88,8 @@ fn main() -> io::Result<()> {
                 }
                 None => out.extend_from_slice(b"none"),
             },
+            (b"scan", [lo, hi, most]) => tell(map.range(unspell(lo)..unspell(hi)), most, &mut out),
+            (b"rscan", [lo, hi, most]) => tell(map.range(unspell(lo)..unspell(hi)).rev(), most, &mut out),
             (b"batch", operations) => {
                 for operation in operations.split(|word| *word == b";") {
                     act(&mut map, operation[0], &operation[1..]);

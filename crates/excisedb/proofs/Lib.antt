@@ -1,3 +1,1 @@
-pub mod StoreLaws
-pub mod SessionLaws
 pub mod TopLaws

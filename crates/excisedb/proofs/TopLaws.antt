@@ -20,34 +20,11 @@ use Rattle.xdb_script.specs.declared.error.ScriptNo.TheVariants.{BadLine}
 use Rattle.xdb_script.specs.declared.error.Why.{Why}
 use Rattle.xdb_script.specs.declared.error.Why.TheVariants as why
 use Rattle.xdb_script.specs.declared.form.ScriptForm.TheVariants.{Run}
-use Rattle.excisedb.specs.Built.{is_get, is_built, first_unbuilt}
-use Rattle.excisedb.specs.Kept.{may_run, is_run}
+use Rattle.xdb_run.specs.Built.{first_unbuilt}
 use Rattle.excisedb.specs.Ends.{run_words, usage_text, refusal_text, refused, AreRead, IsReply, IsRefusal, IsUsage, IsAnswered, MayWrite, Ends}
 use Rattle.excisedb.specs.Outcome.{Replies, RepliesTo, IsSent}
 use Rattle.excisedb.specs.declared.status.Status.{Status}
 use Rattle.excisedb.specs.declared.status.Status.TheVariants.{Done, Words, Script, ReadFault, WriteFault, Memory}
-
-run-by : (tables : List TableOps) (by : Option By) (c : Cmd) → suits tables by c ≡ true → is_built c ≡ true → may_run by c ≡ true
-run-by tables None (cmd.Table table) s built = refl
-run-by tables (Some by) (cmd.Table table) s built = absurd (false≢true s)
-run-by tables None (cmd.Commit form ops) s built = absurd (false≢true s)
-run-by tables (Some by) (cmd.Commit form ops) s built = (and_parts (is_client by) _ s).0
-run-by tables None (cmd.Ask question false) s built = absurd (false≢true s)
-run-by tables (Some by) (cmd.Ask question false) s built = and_from (is_client by) (is_get question) (and_parts (is_client by) _ s).0 built
-run-by tables by (cmd.Ask question true) s built = absurd (false≢true built)
-run-by tables by _ s built = absurd (false≢true built)
-
--- the lines of a script can be run where each is built
-pub lines-run : (last : ℕ) (tables : List TableOps) (lines : List Line) → are_lines last tables lines ≡ true → first_unbuilt lines ≡ None → list_all is_run lines ≡ true
-lines-run last tables [] h none = refl
-lines-run last tables (line ∷ lines) h none =
-    let parts = and_parts (ltb last line.number && suits tables line.by line.cmd) (are_lines line.number (tables_below tables line.cmd) lines) h in
-    let suited = (and_parts (ltb last line.number) (suits tables line.by line.cmd) parts.0).1 in
-    by (is_built line.cmd) refl suited none (lines-run line.number (tables_below tables line.cmd) lines parts.1)
-  where
-    by : (t : Bool) → is_built line.cmd ≡ t → suits tables line.by line.cmd ≡ true → option_map (λ (l : Line). l.number) (cond (not t) (Some line) (find (λ l. not (is_built l.cmd)) lines)) ≡ None → (first_unbuilt lines ≡ None → list_all is_run lines ≡ true) → (may_run line.by line.cmd && list_all is_run lines) ≡ true
-    by true built suited none others = and_from _ _ (run-by tables line.by line.cmd suited built) (others none)
-    by false built suited none others = absurd (cc)
 
 -- a script's reply is that of the bytes that spell it
 pub replies-to : (bytes : List ℕ) (lines : List Line) (status : Status) (text : List ℕ) → script_read Run bytes ≡ Ok lines → Spells Run bytes lines → RepliesTo lines status text → Replies bytes status text

@@ -13,7 +13,7 @@ use Rattle.xdb_script.specs.Grammar.{Spells, most_bytes}
 use Rattle.xdb_script.specs.declared.error.Why.{Why}
 use Rattle.xdb_script.specs.declared.error.Why.TheVariants as why
 use Rattle.xdb_script.specs.declared.form.ScriptForm.TheVariants.{Run}
-use Rattle.excisedb.specs.Built.{first_unbuilt}
+use Rattle.xdb_run.specs.Built.{first_unbuilt}
 use Rattle.excisedb.specs.declared.status.Status.{Status}
 use Rattle.excisedb.specs.declared.status.Status.TheVariants.{Done, Words, Script, ReadFault, WriteFault, Memory}
 

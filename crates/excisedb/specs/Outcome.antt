@@ -7,7 +7,7 @@ use Rattle.xdb_plain.specs.Runs.{IsRunOf}
 use Rattle.xdb_plain.specs.declared.note.Note.{Note}
 use Rattle.xdb_plain.specs.declared.script.Line.{Line}
 use Rattle.xdb_script.specs.declared.error.Why.TheVariants as why
-use Rattle.excisedb.specs.Built.{first_unbuilt}
+use Rattle.xdb_run.specs.Built.{first_unbuilt}
 use Rattle.excisedb.specs.Ends.{IsReply, IsRefusal, refusal_text}
 use Rattle.excisedb.specs.declared.status.Status.{Status}
 use Rattle.excisedb.specs.declared.status.Status.TheVariants.{Done, Words, Script, ReadFault, WriteFault, Memory}

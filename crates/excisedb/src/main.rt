@@ -1,10 +1,8 @@
 //! A log-structured merge storage engine with ingest-and-excise, driven by scripts.
 #![tactic(auto)]
 
-pub mod built;
-mod session;
+mod devices;
 mod status;
-mod store;
 #[cfg(test)]
 mod tests;
 mod top;
@@ -18,10 +16,12 @@ use xdb_device::{StdSink, StdSource};
 fn main(rt: HostRuntime) -> ExitCode {
     let mut script = StdSource::new(rt.stdin());
     let mut out = StdSink::new(rt.stdout());
-    let status = match words::given(&rt) {
-        Ok(Some(words)) => top::top(rt.alloc(), &words, &mut script, &mut out),
-        Ok(None) => top::top(rt.alloc(), &[], &mut script, &mut out),
-        Err(AllocError) => Status::Memory,
+    let status = match (words::given(&rt), devices::of_folder(rt)) {
+        (Ok(Some(words)), Ok(mut devs)) => {
+            top::top(rt.alloc(), &words, &mut script, &mut out, &mut devs)
+        }
+        (Ok(None), Ok(mut devs)) => { top::top(rt.alloc(), &[], &mut script, &mut out, &mut devs) }
+        _ => Status::Memory,
     };
     ExitCode::from(status.code())
 }

@@ -1,10 +1,23 @@
+ghost use Rattle.std.specs.Prelude.{◌≡◌, vec_len, IfOk};
+
+use crate::devices::DEVICES;
 use crate::status::Status;
 use crate::top::top;
-use std::alloc::Global;
+use std::alloc::{AllocError, Global};
 use std::test::Fail;
-use xdb_device::{MemSink, MemSource};
+use xdb_device::{MemSink, MemSource, SureDevice};
 
 const USAGE: &[u8] = b"usage: excisedb run | threads --workers N | gen --ops N --seed X\n";
+
+fn devices(alloc: Global) -> Result<Vec<SureDevice>, AllocError>
+    ensures { IfOk result (λ devs. vec_len devs ≡ 16) }
+{
+    let mut devs = Vec::new(alloc);
+    for _dev in 0..DEVICES {
+        devs.push(SureDevice::new(alloc))?;
+    }
+    Ok(devs)
+}
 
 /// A call with one word. The numbers say which pull and which push fail; 0 is none.
 fn call(
@@ -17,13 +30,67 @@ fn call(
     let words = vec![in alloc; String::from_str(alloc, word)?]?;
     let mut source = MemSource::new(script.to_vec(alloc)?, vec![in alloc; pull]?);
     let mut sink = MemSink::new(alloc, most.max(1), vec![in alloc; push]?);
-    let status = top(alloc, &words, &mut source, &mut sink);
+    let mut devs = devices(alloc)?;
+    let status = top(alloc, &words, &mut source, &mut sink, &mut devs);
     Ok((status, sink))
 }
 
+/// Every verb that is built. Reads that aren't in parts have numbers too.
+const EVERY_VERB: &[u8] = b"table t1 set a 1 ; set c 2
+c1 put a 1
+c2 put b 2
+c1 batch del a ; set c 3
+db seal
+db seal
+c1 scan a z 1
+c2 rscan a z 10
+c1 begin scan a z 10
+c2 begin get b
+c1 delspan b c
+c2 get b
+db work 4
+db work 4
+c1 settle 3
+c1 settle 4
+db work 3
+c16 settle 3
+c1 settle 3
+c1 begin rscan a z 1 at s
+c1 begin rscan a z 1
+db work 6
+c1 settle 6
+c3 del c
+db seal
+c1 scan a z 10
+";
+
+const EVERY_REPLY: &[u8] = b"c1 put a 1 -> done
+c2 put b 2 -> done
+c1 batch del a ; set c 3 -> done
+db seal -> group 1
+db seal -> none
+c1 scan a z 1 -> found b=2
+c2 rscan a z 10 -> found c=3 b=2
+c1 begin scan a z 10 -> asked 3
+c2 begin get b -> asked 4
+c1 delspan b c -> done
+c2 get b -> none
+db work 4 -> no-such
+c1 settle 3 -> not-yet
+c1 settle 4 -> value 2
+c16 settle 3 -> found b=2 c=3
+c1 settle 3 -> no-such
+c1 begin rscan a z 1 at s -> no-such
+c1 begin rscan a z 1 -> asked 6
+c1 settle 6 -> found c=3
+c3 del c -> done
+db seal -> group 2
+c1 scan a z 10 -> found
+";
+
 #[test]
 fn replies(rt: HostRuntime) -> Result<(), Fail> {
-    let rows: [(&[u8], &[u8]); 6] = [
+    let rows: [(&[u8], &[u8]); 9] = [
         // the empty script
         (b"", b""),
         // the stored run
@@ -51,6 +118,17 @@ fn replies(rt: HostRuntime) -> Result<(), Fail> {
             b"table t1 set a 1\nc1 get a at s1\n",
             b"c1 get a at s1 -> no-such\n",
         ),
+        // order inside a batch, seen by scans
+        (
+            b"c1 batch set b 1 ; delspan a c ; set a 2\nc1 scan a z 10\nc1 rscan b z 10\n",
+            b"c1 batch set b 1 ; delspan a c ; set a 2 -> done\nc1 scan a z 10 -> found a=2\nc1 rscan b z 10 -> found\n",
+        ),
+        // a question in parts has the answer of its asking
+        (
+            b"c1 put c 1\nc1 begin get c\nc1 put c 2\nc1 settle 1\ndb work 1\nc1 settle 1\nc1 settle 1\ndb work 1\n",
+            b"c1 put c 1 -> done\nc1 begin get c -> asked 1\nc1 put c 2 -> done\nc1 settle 1 -> not-yet\nc1 settle 1 -> value 1\nc1 settle 1 -> no-such\ndb work 1 -> no-such\n",
+        ),
+        (EVERY_VERB, EVERY_REPLY),
     ];
     for (script, text) in rows {
         let (status, sink) = call(rt.alloc(), "run", script, (0, 0), 7)?;
@@ -75,10 +153,10 @@ fn refusals(rt: HostRuntime) -> Result<(), Fail> {
         (b"table t1 set b 1 ; set a 2", b"line 1: order\n"),
         (b"c1 get a\r\n", b"line 1: spaces\n"),
         // what isn't built is refused behind the grammar's own refusals
-        (b"c1 get a\nc1 scan a b 1\ndb seal", b"line 2: verb\n"),
-        (b"c1 begin get a", b"line 1: verb\n"),
+        (b"c1 get a\nc1 first k\ndb seal", b"line 2: verb\n"),
+        (b"c1 begin next k", b"line 1: verb\n"),
         (b"table t set a 1\nc1 load l t", b"line 2: verb\n"),
-        (b"c1 scan a b 1\nc1 put a", b"line 2: shape\n"),
+        (b"c1 snap s a b\nc1 put a", b"line 2: shape\n"),
     ];
     for (script, text) in rows {
         let (status, sink) = call(rt.alloc(), "run", script, (0, 0), 100)?;

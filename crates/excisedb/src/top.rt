@@ -1,16 +1,16 @@
 //! From words and a script to what is written.
-ghost use Rattle.std.specs.Prelude.{◌≡◌, ◌≢◌, map, string_bytes, IfOk, IsTrue};
+ghost use Rattle.std.specs.Prelude.{◌≡◌, ◌≢◌, map, string_bytes, vec_len, IfOk, IsTrue};
 ghost use Rattle.xdb_device.specs.Faults.{Rose};
 ghost use Rattle.excisedb.specs.Ends.{run_words, usage_text, refusal_text, why_word, Ends};
 ghost use Rattle.excisedb.specs.Outcome.{Replies, RepliesTo, IsSent};
 
-use crate::built::first_unbuilt;
 use crate::status::Status;
-use crate::{session, words};
+use crate::words;
 use itoa::Buffer;
 use std::alloc::{AllocError, Global};
-use xdb_device::{DevNo, Sink, Source, read_up_to, write_all};
+use xdb_device::{DevNo, Device, Sink, Source, read_up_to, write_all};
 use xdb_plain::Script;
+use xdb_run::{RunNo, first_unbuilt, run_script};
 use xdb_script::{ScriptForm, ScriptNo, Why, parse};
 
 const USAGE: &[u8] = b"usage: excisedb run | threads --workers N | gen --ops N --seed X\n";
@@ -19,13 +19,17 @@ const USAGE: &[u8] = b"usage: excisedb run | threads --workers N | gen --ops N -
 const MOST: usize = 1_048_577;
 
 /// Runs the command that the words say, on the script that the source has, and writes its text.
-/// The whole text is made before the first byte is written.
-pub fn top<S: Source, K: Sink>(
+/// The whole text is made before the first byte is written. `run` keeps its files on the first device;
+/// no command that writes one is built yet.
+pub fn top<S: Source, K: Sink, D: Device>(
     alloc: Global,
     words: &[String],
     script: &mut S,
     out: &mut K,
+    devs: &mut Vec<D>,
 ) -> Status
+    requires devices { vec_len devs.old ≡ 16 }
+
     // What was read and written, by the status.
     ensures ends { Ends result (map string_bytes words.now) (S.left script.old) (S.left script.new) (K.written out.old) (K.written out.new) }
 
@@ -35,6 +39,8 @@ pub fn top<S: Source, K: Sink>(
 
     // Other words leave the source alone.
     ensures alone { map string_bytes words.now ≢ run_words → script.new ≡ script.old }
+
+    ensures devices { devs.new.items ≡ devs.old.items }
 {
     if !words::are_run(words) {
         return send(out, USAGE, Status::Words);
@@ -45,18 +51,23 @@ pub fn top<S: Source, K: Sink>(
         Err(DevNo::Failed) => return Status::ReadFault,
         Err(DevNo::Memory) => return Status::Memory,
     }
-    match reply_to(alloc, &bytes) {
+    match reply_to(alloc, &bytes, &mut devs[0]) {
         Ok((status, text)) => send(out, &text, status),
         Err(AllocError) => Status::Memory,
     }
 }
 
 /// The text that the bytes of a script get, and the status that it goes with.
-fn reply_to(alloc: Global, bytes: &[u8]) -> Result<(Status, Vec<u8>), AllocError>
-    ensures { IfOk result (λ reply. Replies bytes.now reply.0 reply.1.items) }
+fn reply_to<D: Device>(
+    alloc: Global,
+    bytes: &[u8],
+    dev: &mut D,
+) -> Result<(Status, Vec<u8>), AllocError>
+    ensures reply { IfOk result (λ reply. Replies bytes.now reply.0 reply.1.items) }
+    ensures device { dev.new ≡ dev.old }
 {
     match parse(alloc, bytes, ScriptForm::Run) {
-        Ok(script) => reply_to_script(alloc, script),
+        Ok(script) => reply_to_script(alloc, script, dev),
         Err(ScriptNo::BadLine { line, why }) => {
             let text = refusal(alloc, line, why)?;
             Ok((Status::Script, text))
@@ -66,19 +77,26 @@ fn reply_to(alloc: Global, bytes: &[u8]) -> Result<(Status, Vec<u8>), AllocError
 }
 
 /// The same of a script.
-fn reply_to_script(alloc: Global, script: Script) -> Result<(Status, Vec<u8>), AllocError>
-    ensures { IfOk result (λ reply. RepliesTo script reply.0 reply.1.items) }
+fn reply_to_script<D: Device>(
+    alloc: Global,
+    script: Script,
+    dev: &mut D,
+) -> Result<(Status, Vec<u8>), AllocError>
+    ensures reply { IfOk result (λ reply. RepliesTo script reply.0 reply.1.items) }
+    ensures device { dev.new ≡ dev.old }
 {
     match first_unbuilt(&script) {
         Some(line) => {
             let text = refusal(alloc, line, Why::Verb)?;
             Ok((Status::Script, text))
         }
-        None => {
-            let notes = session::run(alloc, script)?;
-            let text = xdb_text::text(alloc, &notes)?;
-            Ok((Status::Done, text))
-        }
+        None => match run_script(alloc, script, dev) {
+            Ok(history) => {
+                let text = xdb_text::text(alloc, history.notes())?;
+                Ok((Status::Done, text))
+            }
+            Err(RunNo::Memory) => Err(AllocError),
+        },
     }
 }
 

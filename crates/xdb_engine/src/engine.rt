@@ -1,5 +1,5 @@
 //! The engine and its calls.
-ghost use Rattle.std.specs.Prelude.{◌≡◌, ◌+◌, ◌*◌, ◌≤◌, ◌^◌, ◌++◌, ◌∷◌, [], length, map, IsTrue, IsSome, IfSome, OnOk, OnErr, Some, None};
+ghost use Rattle.std.specs.Prelude.{◌≡◌, ◌+◌, ◌*◌, ◌≤◌, ◌^◌, ◌++◌, ◌∷◌, [], length, map, All, IsTrue, IsSome, IfSome, OnOk, OnErr, Some, None};
 ghost use Rattle.std.specs.Option.{option_map, option_copied};
 ghost use Rattle.xdb_plain.specs.Counts.{dead};
 ghost use Rattle.xdb_plain.specs.Fences.{fence_touched};
@@ -12,6 +12,7 @@ ghost use Rattle.xdb_plain.specs.declared.reply.Reply.TheVariants as reply;
 ghost use Rattle.xdb_engine.specs.Asks.{IsAsked};
 ghost use Rattle.xdb_engine.specs.Notes.{plain_note, is_work, faults};
 ghost use Rattle.xdb_engine.specs.Questions.{found, without, replaced, looked, heard, failure, failure_leaves, settle_act, settle_reply, settle_leaves, LooksFor, found_by, is_kept};
+ghost use Rattle.xdb_engine.specs.Stands.{IsNumbered};
 ghost use Rattle.xdb_engine.specs.Seen.{plain_of, Adds, with_questions, lent, FitsQuestion, IsBrought};
 
 use crate::{Given, Id, OpenRead, Outcome, asks, commits, notes, questions};
@@ -116,6 +117,8 @@ impl<F: FileRef, L: Ledger> Engine<F, L> {
         ensures right { IsRight self.now.first_seq self.now.first_file self.now.notes }
         // What the parts of each open question mean is its answer.
         ensures questions { map heard self.now.questions ≡ (plain_of self.now).questions }
+        // Each has a number that was given, and was asked by a client.
+        ensures numbered { All (IsNumbered (plain_of self.now).asked) self.now.questions }
         ensures book { self.now.book ≡ faults self.now.notes }
     {
         self.history.notes()

@@ -12,3 +12,6 @@ mod questions;
 pub use engine::Engine;
 pub use ids::{Given, Id, Outcome};
 pub use open_read::OpenRead;
+
+#[cfg(test)]
+mod tests;

@@ -7,13 +7,13 @@ use Rattle.xdb_script.specs.declared.form.ScriptForm.TheVariants.{Run}
 use Rattle.excisedb.proofs.TopLaws.{replies-to, read-refused, replies-refused}
 use Rattle.excisedb.proofs.top.reply_to.Goals as goal
 
-pub returns-in-Ok : goal.returns-in-Ok
-returns-in-Ok c =
+pub returns-in-Ok-clause-reply : goal.returns-in-Ok-clause-reply
+returns-in-Ok-clause-reply g c =
     IfOk-weaker c.reply_to_script.result (λ reply. RepliesTo c.in-Ok.script reply.0 reply.1.items) (λ reply. Replies c.args.bytes.now reply.0 reply.1.items)
-    (λ reply h. replies-to c.args.bytes.now c.in-Ok.script reply.0 reply.1.items c.in-Ok.ensures.answers c.in-Ok.ensures.found h) c.reply_to_script.ensures
+    (λ reply h. replies-to c.args.bytes.now c.in-Ok.script reply.0 reply.1.items c.in-Ok.ensures.answers c.in-Ok.ensures.found h) c.reply_to_script.ensures.reply
 
-pub returns-in_ok-text-in-Err-BadLine : goal.returns-in_ok-text-in-Err-BadLine
-returns-in_ok-text-in-Err-BadLine c =
+pub returns-in_ok-text-in-Err-BadLine-clause-reply : goal.returns-in_ok-text-in-Err-BadLine-clause-reply
+returns-in_ok-text-in-Err-BadLine-clause-reply g c =
     let bad = c.in-Err-BadLine in
     let read = read-refused c.parse.result (script_read Run c.args.bytes.now) bad.line bad.why c.parse.ensures.answers (bad.is ∙ ap Err bad.field-0-is) in
     replies-refused c.args.bytes.now bad.line bad.why c.in_ok-text-in-Err-BadLine.text.items read c.in_ok-text-in-Err-BadLine.ensures

@@ -1,0 +1,66 @@
+//! A script from its first line to its last.
+ghost use Rattle.std.specs.Prelude.{◌≡◌, [], IsTrue, None, IfOk, OnOk};
+ghost use Rattle.std.specs.List.{list_all};
+ghost use Rattle.xdb_plain.specs.Legal.{IsRight};
+ghost use Rattle.xdb_plain.specs.Runs.{IsRunOf};
+ghost use Rattle.xdb_run.specs.Built.{first_unbuilt, is_run};
+ghost use Rattle.xdb_run.specs.Running.{HasTaken};
+
+use crate::{RunNo, lines};
+use std::alloc::{AllocError, Global};
+use std::marker::Brand;
+use std::sync::ledger::{Blank, Ledger};
+use xdb_device::{Device, FaultBook, FileRef};
+use xdb_engine::Engine;
+use xdb_history::History;
+use xdb_plain::{Line, Script};
+
+/// Runs a script on one thread, one line after another, and gives its history. Files go to the device;
+/// no command that writes one is built yet.
+pub fn run_script<D: Device>(alloc: Global, script: Script, dev: &mut D) -> Result<History, RunNo>
+    requires built { first_unbuilt script ≡ None }
+    ensures right { IfOk result (λ history. IsRight 1 1 history.notes) }
+    ensures run { IfOk result (λ history. IsRunOf 1 1 script history.notes) }
+    ensures alone { dev.new ≡ dev.old }
+{
+    run_script_named::<D, Brand>(alloc, Blank::new(1), script, dev)
+}
+
+/// The same, for any ledger of faults, with its blank of one part.
+pub fn run_script_named<D: Device, L: Ledger>(
+    alloc: Global,
+    blank: Blank,
+    script: Script,
+    _dev: &mut D,
+) -> Result<History, RunNo>
+    requires name { blank.name ≡ L.name }
+    requires parts { blank.parts ≡ L.parts }
+    requires one { blank.parts ≡ 1 }
+    requires built { first_unbuilt script ≡ None }
+    ensures right { IfOk result (λ history. IsRight 1 1 history.notes) }
+    ensures run { IfOk result (λ history. IsRunOf 1 1 script history.notes) }
+    ensures alone { _dev.new ≡ _dev.old }
+{
+    let (book, _shares) = FaultBook::<L>::split(alloc, blank, 1)?;
+    let mut engine: Engine<D::File, L> = Engine::new(alloc, 1, 1, book);
+    take_all(alloc, &mut engine, script.into_lines())?;
+    // No file is there yet that could be removed.
+    let (history, _book) = engine.into_history();
+    Ok(history)
+}
+
+/// Takes one line after another.
+fn take_all<F: FileRef, L: Ledger>(
+    alloc: Global,
+    engine: &mut Engine<F, L>,
+    script: Vec<Line>,
+) -> Result<(), AllocError>
+    requires run { IsTrue (list_all is_run script.items) }
+    requires fresh { HasTaken [] engine.old }
+    ensures { OnOk result (HasTaken script.items engine.new) }
+{
+    for line in script {
+        lines::take(alloc, engine, line)?;
+    }
+    Ok(())
+}
