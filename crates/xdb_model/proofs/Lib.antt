@@ -11,3 +11,6 @@ pub mod TakenLaws
 pub mod LoadLaws
 pub mod KnownLaws
 pub mod ExcisedLaws
+pub mod EditedLaws
+pub mod PartLaws
+pub mod NamedLaws

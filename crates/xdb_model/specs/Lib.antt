@@ -1,5 +1,6 @@
 pub mod Causes
 pub mod Counted
+pub mod Named
 pub mod Numbered
 pub mod Progress
 pub mod Refusals

@@ -1,0 +1,21 @@
+//! What the versions of every legal history keep.
+ghost use Rattle.std.specs.Prelude.{◌≡◌, ◌∷◌, ◌++◌, ℕ, List};
+ghost use Rattle.std.specs.List.{AllByRecursion};
+ghost use Rattle.xdb_plain.specs.Legal.{IsLegal, after_all};
+ghost use Rattle.xdb_plain.specs.State.{opening};
+ghost use Rattle.xdb_plain.specs.declared.note.Note.{Note};
+ghost use Rattle.xdb_plain.specs.declared.reply.Reply.TheVariants as reply;
+ghost use Rattle.xdb_model.specs.Named.{IsUnnamed, AddsNone};
+
+/// From the note that takes a number on, no table of a current version stands on the file, and no edit adds
+/// such a table.
+pub fn taken_files_are_named_no_more()
+    ensures versions { (first_seq first_file : ℕ) (before : List Note) (taking : Note) (between later : List Note) (num : ℕ)
+        → IsLegal first_seq first_file (before ++ taking ∷ between ++ later) → taking.reply ≡ reply.Took num
+        → IsUnnamed num (after_all (opening first_seq first_file) (before ++ taking ∷ between)).current }
+    ensures taken { (first_seq first_file : ℕ) (notes : List Note) → IsLegal first_seq first_file notes
+        → AllByRecursion (λ n. IsUnnamed n (after_all (opening first_seq first_file) notes).current) (after_all (opening first_seq first_file) notes).taken }
+    ensures edits { (first_seq first_file : ℕ) (before : List Note) (taking : Note) (between : List Note) (note : Note) (later : List Note) (num : ℕ)
+        → IsLegal first_seq first_file (before ++ taking ∷ between ++ note ∷ later) → taking.reply ≡ reply.Took num
+        → AddsNone num note.edit }
+{}
