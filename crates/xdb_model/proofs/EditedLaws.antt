@@ -1,5 +1,5 @@
 -- What holds of the tables of a level after an edit.
-use Rattle.std.proofs.Common.{◌≡◌, ℕ, suc, Bool, true, false, cond, not, eqb, List, [], ◌∷◌, ◌++◌, filter, Some, None, refl, subst, inl, inr}
+use Rattle.std.proofs.Common.{◌≡◌, ℕ, suc, Bool, true, false, cond, not, eqb, List, [], ◌∷◌, filter, Some, None, refl}
 use Rattle.std.proofs.lemmas.Bool.{not-true}
 use Rattle.std.specs.List.{AllByRecursion, filter_map, cons_option}
 use Rattle.std.specs.declared.cmp.Ordering.{Ordering}
@@ -8,35 +8,11 @@ use Rattle.xdb_rangedel.specs.Members.{Has}
 use Rattle.xdb_meta.specs.Table.{Table}
 use Rattle.xdb_edit.specs.Changes.{Changes}
 use Rattle.xdb_edit.specs.Versions.{LevelLists, table_cmp, put_in, put_all_in, removes, added_to, edited_level, edited_from}
-
--- ---- what holds of each element
-
-pub all-more : {A : Type 0} (P Q : A → Type 0) (xs : List A) → ((x : A) → P x → Q x) → AllByRecursion P xs → AllByRecursion Q xs
-all-more P Q [] more all = tt
-all-more P Q (x ∷ xs) more all = (more x all.0, all-more P Q xs more all.1)
-
-pub all-append : {A : Type 0} (P : A → Type 0) (xs ys : List A) → AllByRecursion P xs → AllByRecursion P ys → AllByRecursion P (xs ++ ys)
-all-append P [] ys all more = more
-all-append P (x ∷ xs) ys all more = (all.0, all-append P xs ys all.1 more)
-
-one-kept : {A : Type 0} (P : A → Type 0) (x : A) (rest : List A) (t : Bool) → (t ≡ true → P x) → AllByRecursion P rest → AllByRecursion P (cond t (x ∷ rest) rest)
-one-kept P x rest true is all = (is refl, all)
-one-kept P x rest false is all = all
-
--- what the test lets through, among the elements of a list
-pub all-filtered : {A : Type 0} (P : A → Type 0) (test : A → Bool) (xs : List A) → ((x : A) → Has xs x → test x ≡ true → P x) → AllByRecursion P (filter test xs)
-all-filtered P test [] is = tt
-all-filtered P test (x ∷ xs) is =
-    one-kept P x (filter test xs) (test x) (λ passes. is x (inl refl) passes) (all-filtered P test xs (λ y has passes. is y (inr has) passes))
-
-pub all-has : {A : Type 0} (P : A → Type 0) (xs : List A) (x : A) → Has xs x → AllByRecursion P xs → P x
-all-has P [] x has all = absurd has
-all-has P (y ∷ ys) x (inl same) all = subst P same all.0
-all-has P (y ∷ ys) x (inr behind) all = all-has P ys x behind all.1
+use Rattle.xdb_model.proofs.ListLaws.{all-filtered, all-has, all-more}
 
 -- ---- one level
 
-all-put : (P : Table → Type 0) (cmp : Table → Table → Ordering) (t : Table) (xs : List Table) → P t → AllByRecursion P xs → AllByRecursion P (put_in cmp t xs)
+pub all-put : (P : Table → Type 0) (cmp : Table → Table → Ordering) (t : Table) (xs : List Table) → P t → AllByRecursion P xs → AllByRecursion P (put_in cmp t xs)
 all-put P cmp t [] is all = (is, tt)
 all-put P cmp t (x ∷ xs) is all = either (is_lt (cmp x t)) (all.0, all-put P cmp t xs is all.1) (is, all)
   where
@@ -67,6 +43,7 @@ level-all P e level ts more kept =
 
 pub levels-all : (P : Table → Type 0) (level : ℕ) (e : Changes) (levels : LevelLists) → AllByRecursion (λ a. P a.1) e.added → AllByRecursion (AllByRecursion P) levels → AllByRecursion (AllByRecursion P) (edited_from level e levels)
 levels-all P level e [] more all = tt
-levels-all P level e (ts ∷ rest) more all =
-    (level-all P e level ts (all-more (λ a. P a.1) (λ a. eqb a.0 level ≡ true → P a.1) e.added (λ a is here. is) more) (λ t has stays. all-has P ts t has all.0),
-    levels-all P (suc level) e rest more all.1)
+levels-all P level e (ts ∷ rest) more all = (
+  level-all P e level ts (all-more (λ a. P a.1) (λ a. eqb a.0 level ≡ true → P a.1) e.added (λ a is here. is) more) (λ t has stays. all-has P ts t has all.0),
+  levels-all P (suc level) e rest more all.1,
+)

@@ -11,6 +11,14 @@ pub mod TakenLaws
 pub mod LoadLaws
 pub mod KnownLaws
 pub mod ExcisedLaws
+pub mod ListLaws
 pub mod EditedLaws
 pub mod PartLaws
 pub mod NamedLaws
+pub mod PairLaws
+pub mod CrossedLaws
+pub mod PlaceLaws
+pub mod ApartLaws
+pub mod PlannedLaws
+pub mod RunningLaws
+pub mod DisjointLaws

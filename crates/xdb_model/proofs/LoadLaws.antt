@@ -32,7 +32,7 @@ begun-old true _ o e = false≢true e
 begun-old false reply.NameInUse o e = cc
 begun-old false _ o e = false≢true e
 
-begun-new : (p : Plain) (tables : List TableOps) (span : Option Bounds) (o : Option Load) (r : Reply) → outcome r ≡ begins → list_any (same_reply r) (load_open_replies p tables span o) ≡ true → o ≡ None
+pub begun-new : (p : Plain) (tables : List TableOps) (span : Option Bounds) (o : Option Load) (r : Reply) → outcome r ≡ begins → list_any (same_reply r) (load_open_replies p tables span o) ≡ true → o ≡ None
 begun-new p tables span None r is e = refl
 begun-new p tables span (Some l) r is e = absurd (begun-old (is_being_opened l) r is e)
 

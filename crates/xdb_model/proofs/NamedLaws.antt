@@ -22,8 +22,9 @@ use Rattle.xdb_plain.specs.declared.act.By.{By}
 use Rattle.xdb_plain.specs.declared.note.Note.{Note}
 use Rattle.xdb_plain.specs.declared.reply.Reply.{Reply}
 use Rattle.xdb_plain.specs.declared.reply.Reply.TheVariants as reply
+use Rattle.xdb_model.proofs.ListLaws.{all-append, all-both, all-either, all-more, all-unmap}
 use Rattle.xdb_model.proofs.CauseLaws.{replies, took, load_of}
-use Rattle.xdb_model.proofs.EditedLaws.{all-more, all-append, levels-all}
+use Rattle.xdb_model.proofs.EditedLaws.{levels-all}
 use Rattle.xdb_model.proofs.FileLaws.{file-later}
 use Rattle.xdb_model.proofs.KnownLaws.{Fit, fit-after, fit-all, fit-first, JobFree, JobsFree, jobs-by, not-within, found-all, first-all, dead-free, dead-open}
 use Rattle.xdb_model.proofs.LoadLaws.{AreNamedOnce, LoadFree, LoadsFree, once-by, free-by}
@@ -69,10 +70,6 @@ range-all : (P : ℕ → Type 0) (first len : ℕ) → ((i : ℕ) → first ≤ 
 range-all P first zero is = tt
 range-all P first (suc len) is = (is first (omega arith) (omega arith), range-all P (first + 1) len (λ i from to. is i (omega arith) (omega arith)))
 
-all-mapped : {A : Type 0} (P : ℕ → Type 0) (f : A → ℕ) (xs : List A) → AllByRecursion P (map f xs) → AllByRecursion (λ x. P (f x)) xs
-all-mapped P f [] all = tt
-all-mapped P f (x ∷ xs) all = (all.0, all-mapped P f xs all.1)
-
 outputs-off : (first len n : ℕ) (c : Compaction) (added : List (ℕ × Table)) → list_all (is_output c) added ≡ true → is_within first 64 n ≡ false → len ≤ 64 → AllByRecursion (λ a. IsTable a.1) added
     → AllByRecursion (λ a. (first ≤ a.1.num) × (a.1.num < first + len)) added → AllByRecursion (λ a. Off n a.1) added
 outputs-off first len n c [] outputs off few tables nums = tt
@@ -87,7 +84,7 @@ outputs-off first len n c (a ∷ added) outputs off few tables nums =
 compaction-off : (job : Job) (c : Compaction) (n : ℕ) (e : Changes) → IsCompactionOf job c e → is_within job.first 64 n ≡ false → AllByRecursion (λ a. IsTable a.1) e.added → AllByRecursion (λ a. Off n a.1) e.added
 compaction-off job c n e is off tables =
     let nums = range-all (λ m. (job.first ≤ m) × (m < job.first + length e.added)) job.first (length e.added) (λ i from to. (from, to)) in
-    let each = all-mapped (λ m. (job.first ≤ m) × (m < job.first + length e.added)) (λ a. a.1.num) e.added (subst (AllByRecursion (λ m. (job.first ≤ m) × (m < job.first + length e.added))) (sym is.numbers) nums) in
+    let each = all-unmap (λ m. (job.first ≤ m) × (m < job.first + length e.added)) (λ a. a.1.num) e.added (subst (AllByRecursion (λ m. (job.first ≤ m) × (m < job.first + length e.added))) (sym is.numbers) nums) in
     outputs-off job.first (length e.added) n c e.added is.outputs off is.few tables each
 
 put-off : (n : ℕ) (o : Option Job) (e : Changes) → PutsJob o e → ((j : Job) → o ≡ Some j → JobFree n j) → AllByRecursion (λ a. IsTable a.1) e.added → AllByRecursion (λ a. Off n a.1) e.added
@@ -117,21 +114,6 @@ halves-off n file None olds parts all none = none-all parts none
     none-all (x ∷ xs) none = absurd (false≢true none)
 halves-off n file (Some span) olds parts all none =
     halves-all (λ a. Off n a.1) span olds (rest file parts) (all-more (λ old. Off n old.1) _ olds (λ old off k x is. subst (λ b. eqb b n ≡ false) (sym (part-tells k old x is).same_backing) off) all) none
-
--- what holds of those that pass and of the others
-either-way : {A : Type 0} (P : A → Type 0) (x : A) (passing failing xs : List A) (t : Bool) → (AllByRecursion P passing → AllByRecursion P failing → AllByRecursion P xs)
-    → AllByRecursion P (cond t (x ∷ passing) passing) → AllByRecursion P (cond (not t) (x ∷ failing) failing) → AllByRecursion P (x ∷ xs)
-either-way P x passing failing xs true more pass fail = (pass.0, more pass.1 fail)
-either-way P x passing failing xs false more pass fail = (fail.0, more pass fail.1)
-
-all-either : {A : Type 0} (P : A → Type 0) (test : A → Bool) (xs : List A) → AllByRecursion P (filter test xs) → AllByRecursion P (filter (λ x. not (test x)) xs) → AllByRecursion P xs
-all-either P test [] pass fail = tt
-all-either P test (x ∷ xs) pass fail =
-    either-way P x (filter test xs) (filter (λ y. not (test y)) xs) xs (test x) (λ p f. all-either P test xs p f) pass fail
-
-all-both : {A : Type 0} (P Q R : A → Type 0) (xs : List A) → ((x : A) → P x → Q x → R x) → AllByRecursion P xs → AllByRecursion Q xs → AllByRecursion R xs
-all-both P Q R [] both p q = tt
-all-both P Q R (x ∷ xs) both p q = (both x p.0 q.0, all-both P Q R xs both p.1 q.1)
 
 install-off : (p : Plain) (l : Load) (n : ℕ) (e : Changes) → IsInstallOf p l e → load_owns n l ≡ false → AllByRecursion (AllByRecursion (Off n)) p.current.levels → AllByRecursion (λ a. IsTable a.1) e.added → AllByRecursion (λ a. Off n a.1) e.added
 install-off p l n e is off all tables =
@@ -216,7 +198,7 @@ all-back P [] ys all = all
 all-back P (x ∷ xs) ys all = all-back P xs ys all.1
 
 off-levels : (n : ℕ) (levels : LevelLists) → AllByRecursion (λ b. eqb b n ≡ false) (map (λ t. t.backing) (flat_map (λ ts. ts) levels)) → AllByRecursion (AllByRecursion (Off n)) levels
-off-levels n levels all = by-level levels (all-mapped (λ b. eqb b n ≡ false) (λ (t : Table). t.backing) (flat_map (λ ts. ts) levels) all)
+off-levels n levels all = by-level levels (all-unmap (λ b. eqb b n ≡ false) (λ (t : Table). t.backing) (flat_map (λ ts. ts) levels) all)
   where
     by-level : (levels : LevelLists) → AllByRecursion (Off n) (flat_map (λ ts. ts) levels) → AllByRecursion (AllByRecursion (Off n)) levels
     by-level [] all = tt

@@ -12,7 +12,7 @@ use Rattle.xdb_edit.specs.Versions.{LevelLists, tables_of}
 use Rattle.xdb_plain.specs.Edits.{is_empty, is_part, is_left, is_right, is_physical, is_loaded, are_loaded, crossed_in, Rest, rest, behind, behind_halves}
 use Rattle.xdb_plain.specs.State.{same_name}
 use Rattle.xdb_plain.specs.Tables.{TableOps, table_bounds, same_bounds}
-use Rattle.xdb_model.proofs.EditedLaws.{all-append}
+use Rattle.xdb_model.proofs.ListLaws.{all-append}
 
 -- ---- the tables that a span meets
 
@@ -33,7 +33,7 @@ crossed-all P span base (ts ∷ levels) all =
 
 -- ---- halves
 
-empty-all : {A : Type 0} (P : A → Type 0) (xs : List A) → is_empty xs ≡ true → AllByRecursion P xs
+pub empty-all : {A : Type 0} (P : A → Type 0) (xs : List A) → is_empty xs ≡ true → AllByRecursion P xs
 empty-all P [] none = tt
 empty-all P (x ∷ xs) none = absurd (false≢true none)
 
@@ -85,7 +85,7 @@ pub record IsLoadedAs (levels : LevelLists) (running : List Bounds) (num : ℕ) 
 abbrev pub stands_for : LevelLists → List Bounds → ℕ → ℕ → TableOps → ℕ × Table → Bool
 stands_for levels running num seq t a = eqb a.0 (place levels running (table_bounds t)) && is_loaded num t seq a
 
-loaded-tells : (levels : LevelLists) (running : List Bounds) (num seq : ℕ) (t : TableOps) (a : ℕ × Table) → stands_for levels running num seq t a ≡ true → IsLoadedAs levels running num t a
+pub loaded-tells : (levels : LevelLists) (running : List Bounds) (num seq : ℕ) (t : TableOps) (a : ℕ × Table) → stands_for levels running num seq t a ≡ true → IsLoadedAs levels running num t a
 loaded-tells levels running num seq t a is =
     let parts = and_parts (eqb a.0 (place levels running (table_bounds t))) (is_loaded num t seq a) is in
     let synthetic = and_parts _ (eqb a.1.synthetic seq) parts.1 in
@@ -127,7 +127,7 @@ any-left test (x ∷ front) one back off some = elim (or_cases (test x) (list_an
 ]
 
 -- a table of a lesser number stands for none of those behind
-loaded-left : (levels : LevelLists) (running : List Bounds) (num seq : ℕ) (ts : List TableOps) (front : List (ℕ × Table)) (a : ℕ × Table) (back : List (ℕ × Table)) → a.1.num < num → are_loaded levels running num seq ts (front ++ a ∷ back) ≡ true → are_loaded levels running num seq ts (front ++ back) ≡ true
+pub loaded-left : (levels : LevelLists) (running : List Bounds) (num seq : ℕ) (ts : List TableOps) (front : List (ℕ × Table)) (a : ℕ × Table) (back : List (ℕ × Table)) → a.1.num < num → are_loaded levels running num seq ts (front ++ a ∷ back) ≡ true → are_loaded levels running num seq ts (front ++ back) ≡ true
 loaded-left levels running num seq [] front a back low all = refl
 loaded-left levels running num seq (t ∷ ts) front a back low all =
     let parts = and_parts (list_any (stands_for levels running num seq t) (front ++ a ∷ back)) (are_loaded levels running (num + 1) seq ts (front ++ a ∷ back)) all in

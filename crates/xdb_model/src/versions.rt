@@ -1,10 +1,12 @@
 //! What the versions of every legal history keep.
-ghost use Rattle.std.specs.Prelude.{◌≡◌, ◌∷◌, ◌++◌, ℕ, List};
+ghost use Rattle.std.specs.Prelude.{◌≡◌, ◌∷◌, ◌++◌, ℕ, List, IsTrue};
 ghost use Rattle.std.specs.List.{AllByRecursion};
+ghost use Rattle.xdb_edit.specs.Versions.{are_disjoint};
 ghost use Rattle.xdb_plain.specs.Legal.{IsLegal, after_all};
 ghost use Rattle.xdb_plain.specs.State.{opening};
 ghost use Rattle.xdb_plain.specs.declared.note.Note.{Note};
 ghost use Rattle.xdb_plain.specs.declared.reply.Reply.TheVariants as reply;
+ghost use Rattle.xdb_model.specs.Apart.{IsOrderly, CompactionsFit};
 ghost use Rattle.xdb_model.specs.Named.{IsUnnamed, AddsNone};
 
 /// From the note that takes a number on, no table of a current version stands on the file, and no edit adds
@@ -18,4 +20,19 @@ pub fn taken_files_are_named_no_more()
     ensures edits { (first_seq first_file : ℕ) (before : List Note) (taking : Note) (between : List Note) (note : Note) (later : List Note) (num : ℕ)
         → IsLegal first_seq first_file (before ++ taking ∷ between ++ note ∷ later) → taking.reply ≡ reply.Took num
         → AddsNone num note.edit }
+{}
+
+/// No two running compactions have hulls that meet. While a compaction runs and isn't cancelled, the tables that
+/// meet its hull at the level that it writes to are those that it takes, and so it is at the level that it takes
+/// from, unless that is L0.
+pub fn compactions_keep_apart()
+    ensures { (first_seq first_file : ℕ) (notes : List Note) → IsLegal first_seq first_file notes
+        → CompactionsFit (after_all (opening first_seq first_file) notes) }
+{}
+
+/// Where no two outputs of a compaction meet, and the span of each load is a range, the levels above L0 are
+/// disjoint. That outputs lie in the hull is asked of every history.
+pub fn levels_are_disjoint()
+    ensures { (first_seq first_file : ℕ) (notes : List Note) → IsLegal first_seq first_file notes → AllByRecursion IsOrderly notes
+        → IsTrue (are_disjoint (after_all (opening first_seq first_file) notes).current.levels) }
 {}
