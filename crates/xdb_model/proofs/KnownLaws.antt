@@ -160,7 +160,7 @@ jobs-cancelled n load span [] h = tt
 jobs-cancelled n load span (x ∷ jobs) h =
     (subst (λ len. is_within x.first len n ≡ false) (sym (same-numbers load span x.kind)) h.0, jobs-cancelled n load span jobs h.1)
 
-jobs-installed : (n : ℕ) (load : List ℕ) (span : Option Bounds) (jobs : List Job) → JobsFree n jobs → JobsFree n (cancelled_by load span jobs)
+pub jobs-installed : (n : ℕ) (load : List ℕ) (span : Option Bounds) (jobs : List Job) → JobsFree n jobs → JobsFree n (cancelled_by load span jobs)
 jobs-installed n load None jobs h = h
 jobs-installed n load (Some span) jobs h = jobs-cancelled n load span jobs h
 

@@ -22,3 +22,5 @@ pub mod ApartLaws
 pub mod PlannedLaws
 pub mod RunningLaws
 pub mod DisjointLaws
+pub mod OwnerLaws
+pub mod TableNumberLaws

@@ -127,7 +127,7 @@ free-in : (n : ℕ) (l : Load) (t : Bool) → LoadFree n l → LoadFree n (recor
 free-in n l true h = refl
 free-in n l false h = h
 
-free-installed : (n : ℕ) (name : List ℕ) (ls : List Load) → LoadsFree n ls → LoadsFree n (in_phase name is_in ls)
+pub free-installed : (n : ℕ) (name : List ℕ) (ls : List Load) → LoadsFree n ls → LoadsFree n (in_phase name is_in ls)
 free-installed n name [] h = tt
 free-installed n name (x ∷ ls) h = (free-in n x (same_name x.name name) h.0, free-installed n name ls h.1)
 

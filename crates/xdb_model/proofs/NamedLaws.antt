@@ -44,7 +44,7 @@ not-false false h = absurd (false≢true (sym h))
 own-file : (t : Table) → IsTable t → t.virt ≡ false → t.backing ≡ t.num
 own-file t is own = eqb-true t.backing t.num (not-false (eqb t.backing t.num) (sym is.virt ∙ own))
 
-within-other : (first len n m : ℕ) → is_within first len n ≡ false → first ≤ m → m < first + len → eqb m n ≡ false
+pub within-other : (first len n m : ℕ) → is_within first len n ≡ false → first ≤ m → m < first + len → eqb m n ≡ false
 within-other first len n m off low high = elim (cases_Bool (eqb m n)) [
   | inl is ↦
       let same = eqb-true m n is in
@@ -66,7 +66,7 @@ flush-off first n (a ∷ []) is off tables =
     (own-off first 1 n a.1 tables.0 (not-true a.1.virt own.1) off (omega arith) (omega arith), tt)
 flush-off first n (a ∷ b ∷ rest) is off tables = absurd (false≢true is)
 
-range-all : (P : ℕ → Type 0) (first len : ℕ) → ((i : ℕ) → first ≤ i → i < first + len → P i) → AllByRecursion P (range_with_len first len)
+pub range-all : (P : ℕ → Type 0) (first len : ℕ) → ((i : ℕ) → first ≤ i → i < first + len → P i) → AllByRecursion P (range_with_len first len)
 range-all P first zero is = tt
 range-all P first (suc len) is = (is first (omega arith) (omega arith), range-all P (first + 1) len (λ i from to. is i (omega arith) (omega arith)))
 
@@ -124,7 +124,7 @@ install-off p l n e is off all tables =
     (all-either (λ a. IsTable a.1 → Off n a.1) (λ a. a.1.virt) e.added (all-more (λ a. Off n a.1) _ (virtual_in e) (λ a off table. off) halves) own)
     tables
 
-installed-open : (p : Plain) (name : List ℕ) (by : By) (tables : List TableOps) (span : Option Bounds) (first : ℕ) (phase : Phase) → list_any (same_reply reply.Installed) (install_replies p (Some (load_of name by tables span first phase))) ≡ true → is_open (load_of name by tables span first phase) ≡ true
+pub installed-open : (p : Plain) (name : List ℕ) (by : By) (tables : List TableOps) (span : Option Bounds) (first : ℕ) (phase : Phase) → list_any (same_reply reply.Installed) (install_replies p (Some (load_of name by tables span first phase))) ≡ true → is_open (load_of name by tables span first phase) ≡ true
 installed-open p name by tables span first being_opened e = absurd (false≢true e)
 installed-open p name by tables span first waiting e = refl
 installed-open p name by tables span first is_in e = absurd (false≢true e)

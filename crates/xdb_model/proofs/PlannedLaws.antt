@@ -186,9 +186,9 @@ others-first : (P : Job → Type 0) (x j : Job) (rest : Option Job) (others : Li
 others-first P x j rest others true e same more = same (cc)
 others-first P x j rest others false e same more = more e
 
-pub others-off : (job : ℕ) (jobs : List Job) (j : Job) → found_job job jobs ≡ Some j → Pairwise JobsOff jobs → AllByRecursion (JobsOff j) (without_job job jobs)
-others-off job [] j e pairs = tt
-others-off job (x ∷ jobs) j e pairs =
-    others-first (JobsOff j) x j (found_job job jobs) (without_job job jobs) (eqb x.num job) e
-    (λ same. subst (λ y. AllByRecursion (JobsOff y) (without_job job jobs)) same (all-filtered (JobsOff x) (λ y. not (eqb y.num job)) jobs (λ y has left. all-has (JobsOff x) jobs y has pairs.0)))
-    (λ f. (hulls-turned (job_hull x) (job_hull j) (all-has (JobsOff x) jobs j (found-has job jobs j f) pairs.0), others-off job jobs j f pairs.1))
+pub others-pairs : (R : Job → Job → Type 0) → ((i j : Job) → R i j → R j i) → (job : ℕ) (jobs : List Job) (j : Job) → found_job job jobs ≡ Some j → Pairwise R jobs → AllByRecursion (R j) (without_job job jobs)
+others-pairs R turned job [] j e pairs = tt
+others-pairs R turned job (x ∷ jobs) j e pairs =
+    others-first (R j) x j (found_job job jobs) (without_job job jobs) (eqb x.num job) e
+    (λ same. subst (λ y. AllByRecursion (R y) (without_job job jobs)) same (all-filtered (R x) (λ y. not (eqb y.num job)) jobs (λ y has left. all-has (R x) jobs y has pairs.0)))
+    (λ f. (turned x j (all-has (R x) jobs j (found-has job jobs j f) pairs.0), others-pairs R turned job jobs j f pairs.1))

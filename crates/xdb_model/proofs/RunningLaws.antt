@@ -23,7 +23,7 @@ use Rattle.xdb_plain.specs.declared.reply.Reply.{Reply}
 use Rattle.xdb_plain.specs.declared.reply.Reply.TheVariants as reply
 use Rattle.xdb_model.proofs.ListLaws.{all-append, all-both, all-filtered, all-from_has, all-has, all-map, all-more, pairs-append, pairs-filtered, pairs-map, pairs-more}
 use Rattle.xdb_model.proofs.ApartLaws.{flush-off_hull, compaction-off_hull, install-off_hull, all-at}
-use Rattle.xdb_model.proofs.PlannedLaws.{IsPlan, plan-is, plan-has_all, HullsOff, JobsOff, off-no_hull, off-running, hull-runs, hulls-apart, others-off}
+use Rattle.xdb_model.proofs.PlannedLaws.{IsPlan, plan-is, plan-has_all, HullsOff, JobsOff, hulls-turned, off-no_hull, off-running, hull-runs, hulls-apart, others-pairs}
 use Rattle.xdb_model.specs.Apart.{Pairwise, IsOff, HasAllAt, HasAll, RunsOver, CompactionsFit}
 
 -- ---- hulls of running compactions
@@ -127,7 +127,7 @@ put-runs p job e (Some j) found is pairs all = by-kind j.num j.first j.kind foun
         (λ i runs. flush-keeps p.current.levels e (record { num = num; first = first; kind = flush_of group }) is i.kind runs) left
     by-kind num first (compaction_of c) found is =
         let j : Job = record { num = num; first = first; kind = compaction_of c } in
-        all-both (JobsOff j) (λ i. RunsOver p.current.levels i.kind) _ (without_job job p.jobs) (λ i off runs. compaction-keeps p.current.levels e j c is i.num i.first i.kind off runs) (others-off job p.jobs j found pairs) left
+        all-both (JobsOff j) (λ i. RunsOver p.current.levels i.kind) _ (without_job job p.jobs) (λ i off runs. compaction-keeps p.current.levels e j c is i.num i.first i.kind off runs) (others-pairs JobsOff (λ i k off. hulls-turned (job_hull i) (job_hull k) off) job p.jobs j found pairs) left
 
 -- a load that spares the hull
 install-over : (p : Plain) (l : Load) (e : Changes) → IsInstallOf p l e → (num first : ℕ) (c : Compaction) → Has p.jobs (record { num = num; first = first; kind = compaction_of c }) → ((s : Bounds) → l.span ≡ Some s → IsOff c.hull s) → HasAll p.current.levels c → HasAll (edited p.current.levels e) c
