@@ -1,5 +1,5 @@
 -- What a span crosses is removed, and the halves that stay are apart.
-use Rattle.std.proofs.Common.{◌≡◌, ℕ, zero, suc, ◌+◌, ◌<◌, ◌≤◌, Bool, true, false, cond, eqb, ◌&&◌, List, [], ◌∷◌, ◌++◌, length, map, filter, Some, refl, sym, ap, subst, ◌∙◌, inl, inr, ◌⊎◌, arith}
+use Rattle.std.proofs.Common.{◌≡◌, ℕ, zero, suc, ◌+◌, ◌<◌, ◌≤◌, Bool, true, false, cond, eqb, ◌&&◌, List, [], ◌∷◌, ◌++◌, length, map, filter, Some, refl, sym, ap, subst, ◌∙◌, inl, inr, ◌⊎◌, arith, Option, None}
 use Rattle.std.proofs.lemmas.Bool.{false≢true, and_parts, and_from, or_left, or_right, or_cases, not-true, cases_Bool, eqb-true, eq-eqb}
 use Rattle.std.specs.List.{list_any, AllByRecursion, flat_map, enumerate_from}
 use Rattle.std.specs.declared.cmp.Ordering.{Ordering}
@@ -12,7 +12,8 @@ use Rattle.xdb_meta.specs.Table.{Table, bounds_of}
 use Rattle.xdb_edit.specs.Plans.{meeting, inputs_at, by_num, num_cmp}
 use Rattle.xdb_edit.specs.Versions.{LevelLists, tables_of, put_in, put_all_in}
 use Rattle.xdb_plain.specs.Edits.{is_empty, is_part, is_left, is_right, are_halves, crossed, crossed_in, removed_by, Rest, rest, behind, behind_halves}
-use Rattle.xdb_model.proofs.ListLaws.{all-from_has, all-map, all-more, pairs-append, pairs-filtered, pairs-map, pairs-more}
+use Rattle.xdb_model.proofs.ListLaws.{all-append, all-filtered, all-from_has, all-map, all-more, pairs-append, pairs-filtered, pairs-map, pairs-more}
+use Rattle.xdb_model.proofs.EditedLaws.{all-put_all}
 use Rattle.xdb_model.proofs.PairLaws.{off-turned, off-within, AtLevel, OffTable}
 use Rattle.xdb_model.proofs.PartLaws.{crossed-all, behind-all, halves-all, part-tells}
 use Rattle.xdb_model.specs.Apart.{Pairwise, AreApart}
@@ -39,7 +40,7 @@ has-put : (cmp : Table → Table → Ordering) (x : Table) (ts : List Table) (y 
 has-put cmp x [] y has = has
 has-put cmp x (t ∷ ts) y has = put-has x t y (put_in cmp x ts) ts (is_lt (cmp t x)) (λ h. has-put cmp x ts y h) has
 
-has-put_all : (cmp : Table → Table → Ordering) (xs ts : List Table) (y : Table) → Has xs y ⊎ Has ts y → Has (put_all_in cmp xs ts) y
+pub has-put_all : (cmp : Table → Table → Ordering) (xs ts : List Table) (y : Table) → Has xs y ⊎ Has ts y → Has (put_all_in cmp xs ts) y
 has-put_all cmp [] ts y (inl has) = absurd has
 has-put_all cmp [] ts y (inr has) = has
 has-put_all cmp (x ∷ xs) ts y (inl (inl same)) = has-put_all cmp xs (put_in cmp x ts) y (inr (has-put cmp x ts y (inl same)))
@@ -55,6 +56,22 @@ named-any level (u ∷ ts) t (inr behind) = or_right (eqb level level && eqb u.n
 pub inputs-name : (levels : LevelLists) (level : ℕ) (span : Bounds) (t : Table) → Has (tables_of levels level) t → meets span (bounds_of t) ≡ true → list_any (λ (i : ℕ × ℕ). eqb i.0 level && eqb i.1 t.num) (inputs_at levels level span) ≡ true
 inputs-name levels level span t has met =
     named-any level (by_num (meeting span (tables_of levels level))) t (has-put_all num_cmp (meeting span (tables_of levels level)) [] t (inl (has-filtered (λ u. meets span (bounds_of u)) (tables_of levels level) t has met)))
+
+-- and those alone
+pub inputs-all : (P : ℕ × ℕ → Type 0) (levels : LevelLists) (level : ℕ) (span : Bounds) → ((t : Table) → Has (tables_of levels level) t → meets span (bounds_of t) ≡ true → P (level, t.num)) → AllByRecursion P (inputs_at levels level span)
+inputs-all P levels level span is =
+    all-map P (λ t. (level, t.num)) (by_num (meeting span (tables_of levels level)))
+    (all-put_all (λ t. P (level, t.num)) num_cmp (meeting span (tables_of levels level)) []
+    (all-filtered (λ t. P (level, t.num)) (λ t. meets span (bounds_of t)) (tables_of levels level) is) tt)
+
+removed-from : (P : ℕ × ℕ → Type 0) (levels rest : LevelLists) (span : Bounds) (base : ℕ) → ((level : ℕ) → AllByRecursion P (inputs_at levels level span)) → AllByRecursion P (flat_map (λ l. inputs_at levels l.0 span) (enumerate_from base rest))
+removed-from P levels [] span base is = tt
+removed-from P levels (ts ∷ rest) span base is = all-append P (inputs_at levels base span) _ (is base) (removed-from P levels rest span (base + 1) is)
+
+-- what a span removes are tables that it meets
+pub removed-all : (P : ℕ × ℕ → Type 0) (levels : LevelLists) (span : Option Bounds) → ((s : Bounds) (level : ℕ) (t : Table) → span ≡ Some s → Has (tables_of levels level) t → meets s (bounds_of t) ≡ true → P (level, t.num)) → AllByRecursion P (removed_by levels span)
+removed-all P levels None is = tt
+removed-all P levels (Some s) is = removed-from P levels levels s 0 (λ level. inputs-all P levels level s (λ t has met. is s level t refl has met))
 
 pub any-front : {A : Type 0} (test : A → Bool) (xs ys : List A) → list_any test xs ≡ true → list_any test (xs ++ ys) ≡ true
 any-front test [] ys some = absurd (false≢true some)
@@ -75,7 +92,7 @@ any-flat test f base zero i (ts ∷ levels) is few some =
 any-flat test f base (suc j) i (ts ∷ levels) is few some =
     any-behind test (f base) (flat_map (λ l. f l.0) (enumerate_from (base + 1) levels)) (any-flat test f (base + 1) j i levels (omega arith) (omega arith) some)
 
-has-level : (levels : LevelLists) (level : ℕ) (t : Table) → Has (tables_of levels level) t → level < length levels
+pub has-level : (levels : LevelLists) (level : ℕ) (t : Table) → Has (tables_of levels level) t → level < length levels
 has-level [] level t has = absurd has
 has-level (ts ∷ levels) zero t has = omega arith
 has-level (ts ∷ levels) (suc level) t has = let more = has-level levels level t has in omega arith

@@ -26,19 +26,19 @@ use Rattle.xdb_plain.specs.declared.reply.Reply.TheVariants as reply
 use Rattle.xdb_model.proofs.ListLaws.{all-append, all-filtered, all-has}
 use Rattle.xdb_model.proofs.ApartLaws.{flush-fits, compaction-fits, install-fits, apart-at}
 use Rattle.xdb_model.proofs.KnownLaws.{found-all}
-use Rattle.xdb_model.proofs.RunningLaws.{Running, running-after, running-first}
+use Rattle.xdb_model.proofs.RunningLaws.{Running, running-after, running-first, installed-runs}
 use Rattle.xdb_model.proofs.LevelLaws.{levels-fit}
 use Rattle.xdb_model.proofs.LoadLaws.{begun-new}
 use Rattle.xdb_model.proofs.PlaceLaws.{OffOps, none-overlap}
 use Rattle.xdb_model.proofs.PlannedLaws.{found-has}
-use Rattle.xdb_model.specs.Apart.{Pairwise, AreApart, IsRange, PutsApart, OpensRange, IsOrderly, RunsOver}
+use Rattle.xdb_model.specs.Apart.{Pairwise, AreApart, IsRange, PutsApart, OpensRange, IsOrderly, HasAll, Uncancelled}
 
 -- ---- loads
 
 -- the span of a load is a range, and its tables don't meet
-record LoadFits (l : Load) : Type 0 where
-  range : IsRange l.span
-  tables : Pairwise OffOps l.tables
+pub record LoadFits (l : Load) : Type 0 where
+  pub range : IsRange l.span
+  pub tables : Pairwise OffOps l.tables
 
 abbrev is_made : Outcome → Bool
 is_made succeeds = true
@@ -102,12 +102,8 @@ loads-by p by _ _ r is may range all = all
 
 -- ---- the levels above L0
 
-abbrev ApartAbove : LevelLists → Type 0
+abbrev pub ApartAbove : LevelLists → Type 0
 ApartAbove levels = (level : ℕ) → 0 < level → AreApart (tables_of levels level)
-
-installed-runs : (o : Option (List ℕ)) → list_any (same_reply reply.Installed) (reply.NotYet ∷ or_reply reply.Cancelled o (reply.Memory ∷ reply.Installed ∷ [])) ≡ true → o ≡ None
-installed-runs None e = refl
-installed-runs (Some load) e = absurd (false≢true e)
 
 put-apart : (p : Plain) (job : ℕ) (e : Changes) (o : Option Job) → found_job job p.jobs ≡ o → PutsJob o e → list_any (same_reply reply.Installed) (put_replies o) ≡ true → AreApart (map (λ a. a.1) e.added) → Running p → ApartAbove p.current.levels → ApartAbove (edited p.current.levels e)
 put-apart p job e None found is may outputs running apart = absurd is
@@ -119,7 +115,7 @@ put-apart p job e (Some j) found is may outputs running apart = by-kind j.num j.
         apart-at p.current.levels e level (flush-fits (record { num = num; first = first; kind = flush_of group }) e level (tables_of p.current.levels level) high is) (apart level high)
     by-kind num first (compaction_of c) found is may = λ level high.
         let j : Job = record { num = num; first = first; kind = compaction_of c } in
-        let over = (all-has (λ (i : Job). RunsOver p.current.levels i.kind) p.jobs j (found-has job p.jobs j found) running.runs) (installed-runs c.cancelled may) in
+        let over = (all-has (λ (i : Job). Uncancelled (HasAll p.current.levels) i.kind) p.jobs j (found-has job p.jobs j found) running.runs) (installed-runs c.cancelled may) in
         apart-at p.current.levels e level (compaction-fits p.current.levels j c e level is outputs over.into) (apart level high)
 
 install-apart : (p : Plain) (load : List ℕ) (e : Changes) (o : Option Load) → found_load load p.loads ≡ o → InstallsLoad p o e → AllByRecursion LoadFits p.loads → ApartAbove p.current.levels → ApartAbove (edited p.current.levels e)
@@ -128,11 +124,11 @@ install-apart p load e (Some l) found is fits apart = λ level high.
     let fit = found-all LoadFits (λ (x : Load). same_name x.name load) p.loads l found fits in
     apart-at p.current.levels e level (install-fits p l e is level high fit.range fit.tables (apart level high)) (apart level high)
 
-record Layered (p : Plain) : Type 0 where
-  running : Running p
-  loads : AllByRecursion LoadFits p.loads
-  apart : ApartAbove p.current.levels
-  ranges : have_ranges p.current.levels ≡ true
+pub record Layered (p : Plain) : Type 0 where
+  pub running : Running p
+  pub loads : AllByRecursion LoadFits p.loads
+  pub apart : ApartAbove p.current.levels
+  pub ranges : have_ranges p.current.levels ≡ true
 
 apart-edit : (p : Plain) (by : By) (a : Act) (o : Option Changes) → HasEdit p a o → list_any (same_reply reply.Installed) (may_reply p by a) ≡ true → PutsApart a o → Layered p → ApartAbove (version_after p.current o).levels
 apart-edit p by a None has may puts layered = absurd has
@@ -152,11 +148,11 @@ ranges-edit : (p : Plain) (a : Act) (o : Option Changes) → HasEdit p a o → h
 ranges-edit p a None has ranges = absurd has
 ranges-edit p a (Some e) has ranges = ranges_kept p.current.levels e (have-ranges e.added has.0.tables) ranges
 
-ranges-after : (p : Plain) (a : Act) (r : Reply) (o : Option Changes) → FitsEdit p a r o → have_ranges p.current.levels ≡ true → have_ranges (version_after p.current o).levels ≡ true
+pub ranges-after : (p : Plain) (a : Act) (r : Reply) (o : Option Changes) → FitsEdit p a r o → have_ranges p.current.levels ≡ true → have_ranges (version_after p.current o).levels ≡ true
 ranges-after p a reply.Installed o fits ranges = ranges-edit p a o fits ranges
 ranges-after p a _ o fits ranges = subst (λ (x : Option Changes). have_ranges (version_after p.current x).levels ≡ true) (sym fits) ranges
 
-layered-after : (p : Plain) (note : Note) → MayStand p note → IsOrderly note → Layered p → Layered (after p note)
+pub layered-after : (p : Plain) (note : Note) → MayStand p note → IsOrderly note → Layered p → Layered (after p note)
 layered-after p note may orderly layered = record {
   running = running-after p note may layered.running;
   loads = loads-by p note.by note.act (outcome note.reply) note.reply refl may.reply orderly.opens layered.loads;
@@ -164,7 +160,7 @@ layered-after p note may orderly layered = record {
   ranges = ranges-after p note.act note.reply note.edit may.edit layered.ranges;
 }
 
-layered-all : (p : Plain) (notes : List Note) → Legal p notes → AllByRecursion IsOrderly notes → Layered p → Layered (after_all p notes)
+pub layered-all : (p : Plain) (notes : List Note) → Legal p notes → AllByRecursion IsOrderly notes → Layered p → Layered (after_all p notes)
 layered-all p [] legal orderly layered = layered
 layered-all p (note ∷ notes) legal orderly layered = layered-all (after p note) notes legal.1 orderly.1 (layered-after p note legal.0 orderly.0 layered)
 
@@ -173,7 +169,7 @@ none-apart [] level all = tt
 none-apart (ts ∷ levels) zero all = all.0
 none-apart (ts ∷ levels) (suc level) all = none-apart levels level all.1
 
-layered-first : (first_seq first_file : ℕ) → Layered (opening first_seq first_file)
+pub layered-first : (first_seq first_file : ℕ) → Layered (opening first_seq first_file)
 layered-first first_seq first_file = record {
   running = running-first first_seq first_file;
   loads = tt;
@@ -195,7 +191,7 @@ none-among : (levels : LevelLists) → ((level : ℕ) → AreApart (tables_of le
 none-among [] apart = refl
 none-among (ts ∷ levels) apart = ap (λ o. or_else o (meeting_among levels)) (none-in ts (apart 0)) ∙ none-among levels (λ level. apart (suc level))
 
-no-overlap : (levels : LevelLists) → ApartAbove levels → overlap levels ≡ None
+pub no-overlap : (levels : LevelLists) → ApartAbove levels → overlap levels ≡ None
 no-overlap [] apart = refl
 no-overlap (ts ∷ levels) apart = none-among levels (λ level. apart (suc level) (omega arith))
 

@@ -24,3 +24,4 @@ pub mod RunningLaws
 pub mod DisjointLaws
 pub mod OwnerLaws
 pub mod TableNumberLaws
+pub mod InputLaws

@@ -265,7 +265,7 @@ taken-unnamed first_seq first_file notes legal =
 
 -- ---- over a whole history
 
-legal-parts : (p : Plain) (front back : List Note) → Legal p (front ++ back) → Legal p front × Legal (after_all p front) back
+pub legal-parts : (p : Plain) (front back : List Note) → Legal p (front ++ back) → Legal p front × Legal (after_all p front) back
 legal-parts p [] back legal = (tt, legal)
 legal-parts p (note ∷ front) back legal =
     let parts = legal-parts (after p note) front back legal.1 in

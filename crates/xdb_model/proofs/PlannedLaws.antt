@@ -1,5 +1,5 @@
 -- What a plan takes in, and hulls that don't meet.
-use Rattle.std.proofs.Common.{◌≡◌, ℕ, suc, ◌+◌, Bool, true, false, cond, not, eqb, ltb, ◌&&◌, List, [], ◌∷◌, ◌++◌, take, Option, Some, None, refl, ap, subst, ◌∙◌, inl, inr, ◌⊎◌, arith}
+use Rattle.std.proofs.Common.{◌≡◌, ℕ, suc, ◌+◌, Bool, true, false, cond, not, eqb, ltb, ◌&&◌, List, [], ◌∷◌, ◌++◌, take, Option, Some, None, refl, ap, subst, ◌∙◌, inl, inr, ◌⊎◌, arith, sym}
 use Rattle.std.proofs.lemmas.Bool.{and_parts, or_parts}
 use Rattle.std.specs.List.{list_any, list_all, cons_option, AllByRecursion}
 use Rattle.xdb_rangedel.specs.Members.{Has}
@@ -13,10 +13,10 @@ use Rattle.xdb_plain.specs.Replies.{plan_now}
 use Rattle.xdb_plain.specs.State.{Plain, Job, Compaction, found_job, without_job}
 use Rattle.xdb_plain.specs.declared.act.Which.{Which}
 use Rattle.xdb_plain.specs.declared.act.Which.TheVariants.{Auto, At}
-use Rattle.xdb_model.proofs.ListLaws.{all-filtered, all-from_has, all-has}
-use Rattle.xdb_model.proofs.CrossedLaws.{has-filtered, inputs-name, any-front, any-behind}
+use Rattle.xdb_model.proofs.ListLaws.{all-append, all-filtered, all-from_has, all-has}
+use Rattle.xdb_model.proofs.CrossedLaws.{has-filtered, inputs-all, inputs-name, any-front, any-behind}
 use Rattle.xdb_model.proofs.PairLaws.{off-turned}
-use Rattle.xdb_model.specs.Apart.{Pairwise, IsOff, HasAllAt, HasAll}
+use Rattle.xdb_model.specs.Apart.{Pairwise, IsOff, HasAllAt, HasAll, StandsIn}
 
 -- ---- plans
 
@@ -96,22 +96,39 @@ has-back (x ∷ xs) ys t has = inr (has-back xs ys t has)
 abbrev pub begun : Planned → Compaction
 begun q = record { level = q.level; inputs = q.inputs; hull = q.hull; cancelled = None }
 
+-- what meets the hull lies in it
+plan-within : (levels : LevelLists) (running : List Bounds) (q : Planned) → IsPlan levels running q → (t : Table) → Has (tables_of levels q.level ++ tables_of levels (suc q.level)) t → meets q.hull (bounds_of t) ≡ true → covers q.hull (bounds_of t) ≡ true
+plan-within levels running q is t has met = each-of (λ u. covers q.hull (bounds_of u)) _ t is.full (has-filtered (λ u. meets q.hull (bounds_of u)) _ t has met)
+
 pub plan-has_all : (levels : LevelLists) (running : List Bounds) (q : Planned) → IsPlan levels running q → HasAll levels (begun q)
 plan-has_all levels running q is = record {
   from = λ high. all-from_has _ (tables_of levels q.level) (λ t has met. (
-    inside t (has-front (tables_of levels q.level) (tables_of levels (suc q.level)) t has) met,
+    plan-within levels running q is t (has-front (tables_of levels q.level) (tables_of levels (suc q.level)) t has) met,
     ap (list_any (λ (i : ℕ × ℕ). eqb i.0 q.level && eqb i.1 t.num)) is.inputs
         ∙ any-front _ (inputs_at levels q.level q.hull) (inputs_at levels (suc q.level) q.hull) (inputs-name levels q.level q.hull t has met),
   ));
   into = let next : suc q.level ≡ q.level + 1 = omega arith in subst (HasAllAt levels (begun q)) next (all-from_has _ (tables_of levels (suc q.level)) (λ t has met. (
-    inside t (has-back (tables_of levels q.level) (tables_of levels (suc q.level)) t has) met,
+    plan-within levels running q is t (has-back (tables_of levels q.level) (tables_of levels (suc q.level)) t has) met,
     ap (list_any (λ (i : ℕ × ℕ). eqb i.0 (suc q.level) && eqb i.1 t.num)) is.inputs
         ∙ any-behind _ (inputs_at levels q.level q.hull) (inputs_at levels (suc q.level) q.hull) (inputs-name levels (suc q.level) q.hull t has met),
   )));
 }
-  where
-    inside : (t : Table) → Has (tables_of levels q.level ++ tables_of levels (suc q.level)) t → meets q.hull (bounds_of t) ≡ true → covers q.hull (bounds_of t) ≡ true
-    inside t has met = each-of (λ u. covers q.hull (bounds_of u)) _ t is.full (has-filtered (λ u. meets q.hull (bounds_of u)) _ t has met)
+
+pub plan-inputs : (levels : LevelLists) (running : List Bounds) (q : Planned) → IsPlan levels running q → AllByRecursion (StandsIn levels q.hull) q.inputs
+plan-inputs levels running q is = subst (AllByRecursion (StandsIn levels q.hull)) (sym is.inputs)
+    (all-append (StandsIn levels q.hull) (inputs_at levels q.level q.hull) (inputs_at levels (suc q.level) q.hull)
+    (inputs-all (StandsIn levels q.hull) levels q.level q.hull (λ t has met. record {
+      table = t;
+      among = has;
+      same_num = refl;
+      within = plan-within levels running q is t (has-front (tables_of levels q.level) (tables_of levels (suc q.level)) t has) met;
+    }))
+    (inputs-all (StandsIn levels q.hull) levels (suc q.level) q.hull (λ t has met. record {
+      table = t;
+      among = has;
+      same_num = refl;
+      within = plan-within levels running q is t (has-back (tables_of levels q.level) (tables_of levels (suc q.level)) t has) met;
+    })))
 
 -- ---- hulls of jobs
 

@@ -273,7 +273,7 @@ pub record Numbers (p : Plain) : Type 0 where
   pub free : AllByRecursion (AllByRecursion (λ t. IsFree p.file p.jobs p.loads t.num)) p.current.levels
   pub distinct : (level : ℕ) → Pairwise OtherNum (tables_of p.current.levels level)
 
-level-has : (P : Table → Type 0) (levels : LevelLists) (level : ℕ) (t : Table) → Has (tables_of levels level) t → AllByRecursion (AllByRecursion P) levels → P t
+pub level-has : (P : Table → Type 0) (levels : LevelLists) (level : ℕ) (t : Table) → Has (tables_of levels level) t → AllByRecursion (AllByRecursion P) levels → P t
 level-has P [] level t has all = absurd has
 level-has P (ts ∷ levels) zero t has all = all-has P ts t has all.0
 level-has P (ts ∷ levels) (suc level) t has all = level-has P levels level t has all.1

@@ -1,6 +1,7 @@
 -- Tables of a level, and hulls of compactions, that don't meet.
 use Rattle.std.specs.Prelude.{◌≡◌, ℕ, ◌+◌, ◌<◌, false, ◌&&◌, List, [], ◌∷◌, map, Option, Some, None, IsTrue, ◌==◌}
 use Rattle.std.specs.List.{list_any, AllByRecursion}
+use Rattle.xdb_rangedel.specs.Members.{Has}
 use Rattle.xdb_key.specs.Bounds.{Bounds, meets, covers}
 use Rattle.xdb_key.specs.Order.{is_below}
 use Rattle.xdb_meta.specs.Table.{Table, bounds_of}
@@ -61,11 +62,23 @@ pub record HasAll (levels : LevelLists) (c : Compaction) : Type 0 where
   pub from : 0 < c.level → HasAllAt levels c c.level
   pub into : HasAllAt levels c (c.level + 1)
 
-abbrev pub RunsOver : LevelLists → JobKind → Type 0
-RunsOver levels (flush_of group) = Unit {0}
-RunsOver levels (compaction_of c) = c.cancelled ≡ None → HasAll levels c
+-- an input is a table of its level and lies in the hull
+pub record StandsIn (levels : LevelLists) (hull : Bounds) (input : ℕ × ℕ) : Type 0 where
+  pub table : Table
+  pub among : Has (tables_of levels input.0) table
+  pub same_num : table.num ≡ input.1
+  pub within : IsTrue (covers hull (bounds_of table))
 
--- The hulls of running compactions don't meet. Each that isn't cancelled has all that meets it.
+abbrev pub HasInputs : LevelLists → Compaction → Type 0
+HasInputs levels c = AllByRecursion (StandsIn levels c.hull) c.inputs
+
+-- what holds of a job where it is a compaction that no load has cancelled
+abbrev pub Uncancelled : (Compaction → Type 0) → JobKind → Type 0
+Uncancelled P (flush_of group) = Unit {0}
+Uncancelled P (compaction_of c) = c.cancelled ≡ None → P c
+
+-- The hulls of running compactions don't meet. Each that isn't cancelled has its inputs, and all that meets its hull.
 pub record CompactionsFit (p : Plain) : Type 0 where
   pub apart : Pairwise IsOff (running_hulls p.jobs)
-  pub over : AllByRecursion (λ j. RunsOver p.current.levels j.kind) p.jobs
+  pub over : AllByRecursion (λ j. Uncancelled (HasAll p.current.levels) j.kind) p.jobs
+  pub inputs : AllByRecursion (λ j. Uncancelled (HasInputs p.current.levels) j.kind) p.jobs

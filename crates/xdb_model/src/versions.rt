@@ -1,7 +1,8 @@
 //! What the versions of every legal history keep.
-ghost use Rattle.std.specs.Prelude.{◌≡◌, ◌∷◌, ◌++◌, ℕ, List, IsTrue};
+ghost use Rattle.std.specs.Prelude.{◌≡◌, ◌∷◌, ◌++◌, ℕ, List, Some, IsTrue};
 ghost use Rattle.std.specs.List.{AllByRecursion};
-ghost use Rattle.xdb_edit.specs.Versions.{are_disjoint};
+ghost use Rattle.xdb_edit.specs.Changes.{Changes};
+ghost use Rattle.xdb_edit.specs.Versions.{applies, are_disjoint};
 ghost use Rattle.xdb_plain.specs.Legal.{IsLegal, after_all};
 ghost use Rattle.xdb_plain.specs.State.{opening};
 ghost use Rattle.xdb_plain.specs.declared.note.Note.{Note};
@@ -22,9 +23,9 @@ pub fn taken_files_are_named_no_more()
         → AddsNone num note.edit }
 {}
 
-/// No two running compactions have hulls that meet. While a compaction runs and isn't cancelled, the tables that
-/// meet its hull at the level that it writes to are those that it takes, and so it is at the level that it takes
-/// from, unless that is L0.
+/// No two running compactions have hulls that meet. While a compaction runs and isn't cancelled, its inputs are
+/// tables of their levels and lie in its hull. At the level that it writes to they are all that meets the hull, and
+/// so it is at the level that it takes from, unless that is L0.
 pub fn compactions_keep_apart()
     ensures { (first_seq first_file : ℕ) (notes : List Note) → IsLegal first_seq first_file notes
         → CompactionsFit (after_all (opening first_seq first_file) notes) }
@@ -35,4 +36,12 @@ pub fn compactions_keep_apart()
 pub fn levels_are_disjoint()
     ensures { (first_seq first_file : ℕ) (notes : List Note) → IsLegal first_seq first_file notes → AllByRecursion IsOrderly notes
         → IsTrue (are_disjoint (after_all (opening first_seq first_file) notes).current.levels) }
+{}
+
+/// Each edit of such a history applies to the version that it finds: what it removes is there, and what it leaves
+/// doesn't overlap.
+pub fn edits_apply()
+    ensures { (first_seq first_file : ℕ) (before : List Note) (note : Note) (later : List Note) (e : Changes)
+        → IsLegal first_seq first_file (before ++ note ∷ later) → AllByRecursion IsOrderly (before ++ note ∷ later) → note.edit ≡ Some e
+        → IsTrue (applies (after_all (opening first_seq first_file) before).current.levels e) }
 {}
