@@ -25,3 +25,5 @@ pub mod DisjointLaws
 pub mod OwnerLaws
 pub mod TableNumberLaws
 pub mod InputLaws
+pub mod HeldLaws
+pub mod InUseLaws

@@ -6,7 +6,7 @@ use Rattle.xdb_key.specs.Bounds.{Bounds, covers}
 use Rattle.xdb_meta.specs.Table.{Table, IsTable, bounds_of}
 use Rattle.xdb_edit.specs.Changes.{Changes}
 use Rattle.xdb_edit.specs.Versions.{LevelLists, tables_of}
-use Rattle.xdb_plain.specs.Changes.{after, taken_after}
+use Rattle.xdb_plain.specs.Changes.{after}
 use Rattle.xdb_plain.specs.Counts.{is_within, is_among, is_dead, is_owned, load_owns, job_numbers, count, backings, distinct}
 use Rattle.xdb_plain.specs.Edits.{IsCompactionOf, IsInstallOf, is_flushed, is_output, is_empty, are_halves, crossed, running_hulls, virtual_in, physical_in, halved, rest}
 use Rattle.xdb_plain.specs.Holds.{version_after}
@@ -22,11 +22,11 @@ use Rattle.xdb_plain.specs.declared.act.By.{By}
 use Rattle.xdb_plain.specs.declared.note.Note.{Note}
 use Rattle.xdb_plain.specs.declared.reply.Reply.{Reply}
 use Rattle.xdb_plain.specs.declared.reply.Reply.TheVariants as reply
-use Rattle.xdb_model.proofs.ListLaws.{all-append, all-both, all-either, all-more, all-unmap}
+use Rattle.xdb_model.proofs.ListLaws.{all-both, all-either, all-more, all-unmap}
 use Rattle.xdb_model.proofs.CauseLaws.{replies, took, load_of}
 use Rattle.xdb_model.proofs.EditedLaws.{levels-all}
 use Rattle.xdb_model.proofs.FileLaws.{file-later}
-use Rattle.xdb_model.proofs.KnownLaws.{Fit, fit-after, fit-all, fit-first, JobFree, JobsFree, jobs-by, not-within, found-all, first-all, dead-free, dead-open}
+use Rattle.xdb_model.proofs.KnownLaws.{Fit, fit-all, fit-first, JobFree, JobsFree, jobs-by, not-within, found-all, first-all, dead-free, dead-open}
 use Rattle.xdb_model.proofs.LoadLaws.{AreNamedOnce, LoadFree, LoadsFree, once-by, free-by}
 use Rattle.xdb_model.proofs.PartLaws.{crossed-all, halves-all, part-tells, loaded-all}
 use Rattle.xdb_model.proofs.TakenLaws.{only-reap, first-passes}
@@ -156,14 +156,14 @@ adds-none : (n : ℕ) (p : Plain) (by : By) (a : Act) (r : Reply) (o : Option Ch
 adds-none n p by a reply.Installed o gone fits may = edit-off n p by a o gone fits may
 adds-none n p by a _ o gone fits may = subst (AddsNone n) (sym fits) tt
 
-unnamed-after : (n : ℕ) (v : Version) (o : Option Changes) → AddsNone n o → AllByRecursion (AllByRecursion (Off n)) v.levels → AllByRecursion (AllByRecursion (Off n)) (version_after v o).levels
+pub unnamed-after : (n : ℕ) (v : Version) (o : Option Changes) → AddsNone n o → AllByRecursion (AllByRecursion (Off n)) v.levels → AllByRecursion (AllByRecursion (Off n)) (version_after v o).levels
 unnamed-after n v None none all = all
 unnamed-after n v (Some e) none all = levels-all (Off n) 0 e v.levels none all
 
-gone-adds : (n : ℕ) (p : Plain) (note : Note) → MayStand p note → Gone n p → AddsNone n note.edit
+pub gone-adds : (n : ℕ) (p : Plain) (note : Note) → MayStand p note → Gone n p → AddsNone n note.edit
 gone-adds n p note may gone = adds-none n p note.by note.act note.reply note.edit gone may.edit may.reply
 
-gone-after : (n : ℕ) (p : Plain) (note : Note) → MayStand p note → AreNamedOnce p.loads → Gone n p → Gone n (after p note)
+pub gone-after : (n : ℕ) (p : Plain) (note : Note) → MayStand p note → AreNamedOnce p.loads → Gone n p → Gone n (after p note)
 gone-after n p note may once gone =
     let low = gone.low in
     let later = file-later p note.act (outcome note.reply) note.edit in
@@ -185,7 +185,7 @@ none-first : {A : Type 0} (test : A → Bool) (x : A) (passing xs : List A) (t :
 none-first test x passing xs true is more none = absurd (omega arith)
 none-first test x passing xs false is more none = (is, more none)
 
-none-pass : {A : Type 0} (test : A → Bool) (xs : List A) → length (filter test xs) ≡ 0 → AllByRecursion (λ x. test x ≡ false) xs
+pub none-pass : {A : Type 0} (test : A → Bool) (xs : List A) → length (filter test xs) ≡ 0 → AllByRecursion (λ x. test x ≡ false) xs
 none-pass test [] none = tt
 none-pass test (x ∷ xs) none = none-first test x (filter test xs) xs (test x) refl (λ n. none-pass test xs n) none
 
@@ -197,7 +197,7 @@ all-back : {A : Type 0} (P : A → Type 0) (xs ys : List A) → AllByRecursion P
 all-back P [] ys all = all
 all-back P (x ∷ xs) ys all = all-back P xs ys all.1
 
-off-levels : (n : ℕ) (levels : LevelLists) → AllByRecursion (λ b. eqb b n ≡ false) (map (λ t. t.backing) (flat_map (λ ts. ts) levels)) → AllByRecursion (AllByRecursion (Off n)) levels
+pub off-levels : (n : ℕ) (levels : LevelLists) → AllByRecursion (λ b. eqb b n ≡ false) (map (λ t. t.backing) (flat_map (λ ts. ts) levels)) → AllByRecursion (AllByRecursion (Off n)) levels
 off-levels n levels all = by-level levels (all-unmap (λ b. eqb b n ≡ false) (λ (t : Table). t.backing) (flat_map (λ ts. ts) levels) all)
   where
     by-level : (levels : LevelLists) → AllByRecursion (Off n) (flat_map (λ ts. ts) levels) → AllByRecursion (AllByRecursion (Off n)) levels
@@ -209,7 +209,7 @@ count-none n p none =
     let others = flat_map backings (filter (λ w. not (eqb w.num p.current.num)) (distinct (map (λ h. h.version) p.holds))) in
     off-levels n p.current.levels (all-front (λ b. eqb b n ≡ false) (backings p.current) others (none-pass (λ b. eqb b n) (backings p.current ++ others) none))
 
-dead-count : (p : Plain) (n : ℕ) → is_dead p n ≡ true → count p n ≡ 0
+pub dead-count : (p : Plain) (n : ℕ) → is_dead p n ≡ true → count p n ≡ 0
 dead-count p n e =
     let front = and_parts (eqb (count p n) 0 && not (is_owned p n)) (not (is_among n p.taken)) e in
     eqb-true (count p n) 0 (and_parts (eqb (count p n) 0) (not (is_owned p n)) front.0).0
@@ -229,7 +229,7 @@ took-gone n p note may said fit =
 
 -- ---- what the definitions say
 
-unnamed-tells : (n : ℕ) (v : Version) → AllByRecursion (AllByRecursion (Off n)) v.levels → IsUnnamed n v
+pub unnamed-tells : (n : ℕ) (v : Version) → AllByRecursion (AllByRecursion (Off n)) v.levels → IsUnnamed n v
 unnamed-tells n v all = by-level v.levels all
   where
     none-of : (ts more : List Table) → AllByRecursion (Off n) ts → list_any (λ b. eqb b n) (map (λ t. t.backing) more) ≡ false → list_any (λ b. eqb b n) (map (λ t. t.backing) (ts ++ more)) ≡ false
@@ -239,29 +239,6 @@ unnamed-tells n v all = by-level v.levels all
     by-level : (levels : LevelLists) → AllByRecursion (AllByRecursion (Off n)) levels → list_any (λ b. eqb b n) (map (λ t. t.backing) (flat_map (λ ts. ts) levels)) ≡ false
     by-level [] all = refl
     by-level (ts ∷ rest) all = none-of ts (flat_map (λ ts. ts) rest) all.0 (by-level rest all.1)
-
--- ---- all numbers that were taken
-
-still-gone : (p : Plain) (note : Note) (ns : List ℕ) → MayStand p note → AreNamedOnce p.loads → AllByRecursion (λ n. Gone n p) ns → AllByRecursion (λ n. Gone n (after p note)) ns
-still-gone p note [] may once all = tt
-still-gone p note (n ∷ ns) may once all = (gone-after n p note may once all.0, still-gone p note ns may once all.1)
-
-all-taken : (p : Plain) (note : Note) (r : Reply) → note.reply ≡ r → MayStand p note → Fit p → AllByRecursion (λ n. Gone n p) p.taken → AllByRecursion (λ n. Gone n p) (taken_after p.taken r)
-all-taken p note (reply.Took n) is may fit all = all-append (λ m. Gone m p) p.taken (n ∷ []) all (took-gone n p note may is fit, tt)
-all-taken p note _ is may fit all = all
-
-taken-all : (p : Plain) (notes : List Note) → Legal p notes → Fit p → AllByRecursion (λ n. Gone n p) p.taken → AllByRecursion (λ n. Gone n (after_all p notes)) (after_all p notes).taken
-taken-all p [] legal fit all = all
-taken-all p (note ∷ notes) legal fit all =
-    taken-all (after p note) notes legal.1 (fit-after p note legal.0 fit) (still-gone p note (taken_after p.taken note.reply) legal.0 fit.once (all-taken p note note.reply refl legal.0 fit all))
-
-pub taken-gone : (first_seq first_file : ℕ) (notes : List Note) → Legal (opening first_seq first_file) notes → AllByRecursion (λ n. Gone n (after_all (opening first_seq first_file) notes)) (after_all (opening first_seq first_file) notes).taken
-taken-gone first_seq first_file notes legal = taken-all (opening first_seq first_file) notes legal (fit-first first_seq first_file) tt
-
-pub taken-unnamed : (first_seq first_file : ℕ) (notes : List Note) → Legal (opening first_seq first_file) notes → AllByRecursion (λ n. IsUnnamed n (after_all (opening first_seq first_file) notes).current) (after_all (opening first_seq first_file) notes).taken
-taken-unnamed first_seq first_file notes legal =
-    let p = after_all (opening first_seq first_file) notes in
-    all-more (λ n. Gone n p) (λ n. IsUnnamed n p.current) p.taken (λ n gone. unnamed-tells n p.current gone.unnamed) (taken-gone first_seq first_file notes legal)
 
 -- ---- over a whole history
 

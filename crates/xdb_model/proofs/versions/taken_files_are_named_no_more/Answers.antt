@@ -1,4 +1,5 @@
-use Rattle.xdb_model.proofs.NamedLaws.{named-no_more, taken-unnamed, added-no_more}
+use Rattle.xdb_model.proofs.InUseLaws.{taken-unnamed}
+use Rattle.xdb_model.proofs.NamedLaws.{named-no_more, added-no_more}
 use Rattle.xdb_model.proofs.versions.taken_files_are_named_no_more.Goals as goal
 
 pub returns-clause-versions : goal.returns-clause-versions
