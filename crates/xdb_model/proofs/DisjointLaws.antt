@@ -1,11 +1,13 @@
 -- The levels above L0 stay disjoint.
 use Rattle.std.proofs.Common.{◌≡◌, ℕ, zero, suc, ◌<◌, Bool, true, false, cond, not, leb, ◌&&◌, List, [], ◌∷◌, ◌++◌, length, map, Option, Some, None, is_some, is_none, refl, sym, ap, subst, ◌∙◌, inl, inr, arith}
-use Rattle.std.proofs.lemmas.Bool.{false≢true, and_from, or_cases}
+use Rattle.std.proofs.lemmas.Bool.{false≢true, and_from, or_cases, and_parts, and_right, not-true}
 use Rattle.std.specs.List.{list_any, list_all, AllByRecursion}
 use Rattle.xdb_key.specs.Bounds.{Bounds}
-use Rattle.xdb_meta.specs.Table.{Table, IsTable}
+use Rattle.xdb_key.specs.Order.{is_below, is_upto}
+use Rattle.xdb_key.proofs.OrderLaws.{upto-not_below}
+use Rattle.xdb_meta.specs.Table.{Table, IsTable, bounds_of}
 use Rattle.xdb_edit.specs.Changes.{Changes}
-use Rattle.xdb_edit.specs.Versions.{LevelLists, no_tables, tables_of, edited, has_range, have_ranges, meeting_after, meeting_in, meeting_among, overlap, are_disjoint, or_else}
+use Rattle.xdb_edit.specs.Versions.{LevelLists, no_tables, tables_of, edited, has_range, have_ranges, meeting_after, meeting_in, meeting_among, overlap, are_disjoint, or_else, is_disjoint}
 use Rattle.xdb_edit.proofs.VersionLaws.{ranges_kept, disjoint_where_apart}
 use Rattle.xdb_plain.specs.Changes.{after, loads_after, new_load, in_phase}
 use Rattle.xdb_plain.specs.Edits.{is_empty}
@@ -31,7 +33,7 @@ use Rattle.xdb_model.proofs.LevelLaws.{levels-fit}
 use Rattle.xdb_model.proofs.LoadLaws.{begun-new}
 use Rattle.xdb_model.proofs.PlaceLaws.{OffOps, none-overlap}
 use Rattle.xdb_model.proofs.PlannedLaws.{found-has}
-use Rattle.xdb_model.specs.Apart.{Pairwise, AreApart, IsRange, PutsApart, OpensRange, IsOrderly, HasAll, Uncancelled}
+use Rattle.xdb_model.specs.Apart.{Pairwise, AreApart, IsRange, PutsApart, OpensRange, IsOrderly, HasAll, Uncancelled, IsOff}
 
 -- ---- loads
 
@@ -200,3 +202,16 @@ disjoint-fit first_seq first_file notes legal orderly =
     let p = after_all (opening first_seq first_file) notes in
     let layered = layered-all (opening first_seq first_file) notes legal orderly (layered-first first_seq first_file) in
     disjoint_where_apart p.current.levels (levels-fit first_seq first_file notes).sorted layered.ranges (no-overlap p.current.levels layered.apart)
+
+-- tables of which each ends before those behind it begin
+pub disjoint-apart : (ts : List Table) → is_disjoint ts ≡ true → AreApart ts
+disjoint-apart [] disjoint = tt
+disjoint-apart (t ∷ ts) disjoint =
+    let parts = and_parts (list_all (λ u. is_upto t.hi u.lo) ts) (is_disjoint ts) disjoint in
+    (off-all ts parts.0, disjoint-apart ts parts.1)
+  where
+    off-all : (us : List Table) → list_all (λ u. is_upto t.hi u.lo) us ≡ true → AllByRecursion (λ u. IsOff (bounds_of t) (bounds_of u)) us
+    off-all [] all = tt
+    off-all (u ∷ us) all =
+        let each = and_parts (is_upto t.hi u.lo) (list_all (λ v. is_upto t.hi v.lo) us) all in
+        (and_right (is_below t.lo u.hi) (is_below u.lo t.hi) (not-true (is_below u.lo t.hi) (sym (upto-not_below t.hi u.lo) ∙ each.0)), off-all us each.1)

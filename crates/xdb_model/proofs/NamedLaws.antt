@@ -248,7 +248,7 @@ legal-parts p (note ∷ front) back legal =
     let parts = legal-parts (after p note) front back legal.1 in
     ((legal.0, parts.0), parts.1)
 
-after-parts : (p : Plain) (front back : List Note) → after_all p (front ++ back) ≡ after_all (after_all p front) back
+pub after-parts : (p : Plain) (front back : List Note) → after_all p (front ++ back) ≡ after_all (after_all p front) back
 after-parts p [] back = refl
 after-parts p (note ∷ front) back = after-parts (after p note) front back
 

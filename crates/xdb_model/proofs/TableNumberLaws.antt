@@ -1,6 +1,6 @@
 -- The tables of a level have different numbers, which are nobody's.
 use Rattle.std.proofs.Common.{◌≡◌, ℕ, zero, suc, ◌+◌, ◌<◌, ◌≤◌, Bool, true, false, cond, not, eqb, ltb, ◌&&◌, List, [], ◌∷◌, ◌++◌, length, map, Option, Some, None, refl, sym, ap, subst, ◌∙◌, inl, inr, ◌⊎◌, arith}
-use Rattle.std.proofs.lemmas.Bool.{false≢true, and_parts, and_right, or_cases, or_from, eqb-true, eqb-false, ne_eqb, ltb-true}
+use Rattle.std.proofs.lemmas.Bool.{false≢true, and_parts, and_right, or_cases, or_from, eqb-true, eqb-false, ne_eqb, ltb-true, eq-eqb}
 use Rattle.std.specs.List.{list_any, AllByRecursion}
 use Rattle.xdb_rangedel.specs.Members.{Has}
 use Rattle.xdb_key.specs.Bounds.{Bounds}
@@ -27,12 +27,12 @@ use Rattle.xdb_plain.specs.declared.act.By.{By}
 use Rattle.xdb_plain.specs.declared.note.Note.{Note}
 use Rattle.xdb_plain.specs.declared.reply.Reply.{Reply}
 use Rattle.xdb_plain.specs.declared.reply.Reply.TheVariants as reply
-use Rattle.xdb_model.proofs.EditedLaws.{levels-all}
+use Rattle.xdb_model.proofs.EditedLaws.{levels-all, level-all}
 use Rattle.xdb_model.proofs.FileLaws.{JobBelow, LoadBelow, file-later}
 use Rattle.xdb_model.proofs.KnownLaws.{Fit, fit-after, fit-first, JobFree, JobsFree, jobs-by, jobs-installed, not-within}
 use Rattle.xdb_model.proofs.ListLaws.{all-either, all-from_has, all-has, all-map, all-more, all-unmap, pairs-more, same-or}
 use Rattle.xdb_model.proofs.LoadLaws.{AreNamedOnce, LoadFree, LoadsFree, free-by, free-installed}
-use Rattle.xdb_model.proofs.NamedLaws.{range-all, within-other, installed-open}
+use Rattle.xdb_model.proofs.NamedLaws.{range-all, within-other, installed-open, legal-parts, after-parts}
 use Rattle.xdb_model.proofs.OwnerLaws.{OwnersFit, owners-by, JobsBeside, LoadsBeside, JobBesideLoad, beside-turned, beside-out, out-of}
 use Rattle.xdb_model.proofs.PairLaws.{EachAt, level-pairs, edited-at}
 use Rattle.xdb_model.proofs.PartLaws.{loaded-all}
@@ -375,3 +375,54 @@ tables-fit first_seq first_file notes legal =
       of_jobs = each (λ n. AllByRecursion (λ j. job_owns n j ≡ false) p.jobs) (λ n free. free.of_jobs);
       of_loads = each (λ n. AllByRecursion (λ l. (is_open l && load_owns n l) ≡ false) p.loads) (λ n free. free.of_loads);
     }
+
+-- ---- a number is always that of one table
+
+-- what is added has a number that no table has had
+new-by : (p : Plain) (by : By) (a : Act) (e : Changes) → HasEdit p a (Some e) → list_any (same_reply reply.Installed) (may_reply p by a) ≡ true → Numbers p → AllByRecursion (λ x. (m : ℕ) → IsFree p.file p.jobs p.loads m → eqb x.1.num m ≡ false) e.added
+new-by p by (act.Put job) e has may numbers = all-more _ _ e.added (λ x c. c.new) (put-all p job (found_job job p.jobs) e refl has.1 numbers.fit.files numbers.owners)
+new-by p by (act.Install load) e has may numbers = all-more _ _ e.added (λ x c. c.new) (install-all p load (found_load load p.loads) e refl has.1 may numbers.fit.files numbers.owners)
+new-by p by _ e has may numbers = absurd has.1
+
+-- no other table of the level has its number
+abbrev Only : Table → List Table → Type 0
+Only t ts = AllByRecursion (λ u. eqb u.num t.num ≡ true → t ≡ u) ts
+
+only-edit : (p : Plain) (by : By) (a : Act) (o : Option Changes) (level : ℕ) (t : Table) → HasEdit p a o → list_any (same_reply reply.Installed) (may_reply p by a) ≡ true → Numbers p → IsFree p.file p.jobs p.loads t.num → Only t (tables_of p.current.levels level)
+    → Only t (tables_of (version_after p.current o).levels level)
+only-edit p by a None level t has may numbers free only = absurd has
+only-edit p by a (Some e) level t has may numbers free only =
+    edited-at (Only t) e p.current.levels 0 level level (omega arith) tt
+    (level-all (λ u. eqb u.num t.num ≡ true → t ≡ u) e level (tables_of p.current.levels level)
+    (all-more _ _ e.added (λ x new here same. absurd (false≢true (sym (new t.num free) ∙ same))) (new-by p by a e has may numbers))
+    (λ u hu stays. all-has (λ w. eqb w.num t.num ≡ true → t ≡ w) (tables_of p.current.levels level) u hu only))
+
+only-by : (p : Plain) (by : By) (a : Act) (r : Reply) (o : Option Changes) (level : ℕ) (t : Table) → FitsEdit p a r o → list_any (same_reply r) (may_reply p by a) ≡ true → Numbers p → IsFree p.file p.jobs p.loads t.num → Only t (tables_of p.current.levels level)
+    → Only t (tables_of (version_after p.current o).levels level)
+only-by p by a reply.Installed o level t fits may numbers free only = only-edit p by a o level t fits may numbers free only
+only-by p by a _ o level t fits may numbers free only = subst (λ (x : Option Changes). Only t (tables_of (version_after p.current x).levels level)) (sym fits) only
+
+only-all : (p : Plain) (notes : List Note) (level : ℕ) (t : Table) → Legal p notes → Numbers p → IsFree p.file p.jobs p.loads t.num → Only t (tables_of p.current.levels level) → Only t (tables_of (after_all p notes).current.levels level)
+only-all p [] level t legal numbers free only = only
+only-all p (note ∷ notes) level t legal numbers free only =
+    only-all (after p note) notes level t legal.1 (numbers-after p note legal.0 numbers)
+    (free-kept p note.by note.act (outcome note.reply) note.reply note.edit t.num refl legal.0.reply numbers.fit.once free)
+    (only-by p note.by note.act note.reply note.edit level t legal.0.edit legal.0.reply numbers free only)
+
+only-now : (ts : List Table) (t : Table) → Pairwise OtherNum ts → Has ts t → Only t ts
+only-now ts t distinct has = all-from_has (λ u. eqb u.num t.num ≡ true → t ≡ u) ts (λ u hu same. elim (same-or OtherNum other-turned ts t u distinct has hu) [
+  | inl is ↦ is
+  | inr other ↦ absurd (false≢true (sym (other-turned t u other) ∙ same))
+])
+
+pub same-table : (first_seq first_file : ℕ) (before between : List Note) (level : ℕ) (t u : Table) → Legal (opening first_seq first_file) (before ++ between) → Has (tables_of (after_all (opening first_seq first_file) before).current.levels level) t
+    → Has (tables_of (after_all (opening first_seq first_file) (before ++ between)).current.levels level) u → t.num ≡ u.num → t ≡ u
+same-table first_seq first_file before between level t u legal ht hu same =
+    let start = opening first_seq first_file in
+    let p = after_all start before in
+    let parts = legal-parts start before between legal in
+    let numbers = numbers-all start before parts.0 (numbers-first first_seq first_file) in
+    let free = level-has (λ w. IsFree p.file p.jobs p.loads w.num) p.current.levels level t ht numbers.free in
+    let only = only-all p between level t parts.1 numbers free (only-now (tables_of p.current.levels level) t (numbers.distinct level) ht) in
+    all-has (λ w. eqb w.num t.num ≡ true → t ≡ w) (tables_of (after_all p between).current.levels level) u
+    (subst (λ (q : Plain). Has (tables_of q.current.levels level) u) (after-parts start before between) hu) only (eq-eqb u.num t.num (sym same))

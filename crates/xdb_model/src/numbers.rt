@@ -1,5 +1,8 @@
 //! In every legal history groups, jobs, questions and files are numbered in order, and levels stand in theirs.
-ghost use Rattle.std.specs.Prelude.{ℕ, List};
+ghost use Rattle.std.specs.Prelude.{◌≡◌, ◌++◌, ℕ, List};
+ghost use Rattle.xdb_rangedel.specs.Members.{Has};
+ghost use Rattle.xdb_meta.specs.Table.{Table};
+ghost use Rattle.xdb_edit.specs.Versions.{tables_of};
 ghost use Rattle.xdb_plain.specs.Legal.{IsLegal, after_all};
 ghost use Rattle.xdb_plain.specs.State.{opening};
 ghost use Rattle.xdb_plain.specs.declared.note.Note.{Note};
@@ -54,4 +57,12 @@ pub fn taken_numbers_are_given_to_none()
 pub fn tables_are_numbered()
     ensures { (first_seq first_file : ℕ) (notes : List Note) → IsLegal first_seq first_file notes
         → TablesFit (after_all (opening first_seq first_file) notes) }
+{}
+
+/// A number at a level is always that of one table: a later version has no other one there under it.
+pub fn numbers_tell_tables()
+    ensures { (first_seq first_file : ℕ) (before between : List Note) (level : ℕ) (t u : Table) → IsLegal first_seq first_file (before ++ between)
+        → Has (tables_of (after_all (opening first_seq first_file) before).current.levels level) t
+        → Has (tables_of (after_all (opening first_seq first_file) (before ++ between)).current.levels level) u
+        → t.num ≡ u.num → t ≡ u }
 {}

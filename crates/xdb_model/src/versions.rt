@@ -1,13 +1,14 @@
 //! What the versions of every legal history keep.
 ghost use Rattle.std.specs.Prelude.{◌≡◌, ◌∷◌, ◌++◌, ℕ, List, Some, IsTrue};
 ghost use Rattle.std.specs.List.{AllByRecursion};
+ghost use Rattle.xdb_meta.specs.Table.{Table};
 ghost use Rattle.xdb_edit.specs.Changes.{Changes};
-ghost use Rattle.xdb_edit.specs.Versions.{applies, are_disjoint};
+ghost use Rattle.xdb_edit.specs.Versions.{applies, is_disjoint, are_disjoint};
 ghost use Rattle.xdb_plain.specs.Legal.{IsLegal, after_all};
 ghost use Rattle.xdb_plain.specs.State.{opening};
 ghost use Rattle.xdb_plain.specs.declared.note.Note.{Note};
 ghost use Rattle.xdb_plain.specs.declared.reply.Reply.TheVariants as reply;
-ghost use Rattle.xdb_model.specs.Apart.{IsOrderly, CompactionsFit};
+ghost use Rattle.xdb_model.specs.Apart.{AreApart, IsOrderly, CompactionsFit};
 ghost use Rattle.xdb_model.specs.Named.{IsUnnamed, AddsNone};
 
 /// From the note that takes a number on, no table of a current version stands on the file, and no edit adds
@@ -44,4 +45,9 @@ pub fn edits_apply()
     ensures { (first_seq first_file : ℕ) (before : List Note) (note : Note) (later : List Note) (e : Changes)
         → IsLegal first_seq first_file (before ++ note ∷ later) → AllByRecursion IsOrderly (before ++ note ∷ later) → note.edit ≡ Some e
         → IsTrue (applies (after_all (opening first_seq first_file) before).current.levels e) }
+{}
+
+/// No two tables meet of which each ends before those behind it begin.
+pub fn disjoint_tables_are_apart()
+    ensures { (ts : List Table) → IsTrue (is_disjoint ts) → AreApart ts }
 {}
