@@ -27,3 +27,4 @@ pub mod TableNumberLaws
 pub mod InputLaws
 pub mod HeldLaws
 pub mod InUseLaws
+pub mod FlushLaws

@@ -6,6 +6,7 @@ ghost use Rattle.xdb_edit.specs.Versions.{tables_of};
 ghost use Rattle.xdb_plain.specs.Legal.{IsLegal, after_all};
 ghost use Rattle.xdb_plain.specs.State.{opening};
 ghost use Rattle.xdb_plain.specs.declared.note.Note.{Note};
+ghost use Rattle.xdb_model.specs.Flushes.{FlushesFit};
 ghost use Rattle.xdb_model.specs.Numbered.{GroupsFit, JobsFit, QuestionsFit, FilesFit, LevelsFit, AreDistinct, TakenFit, TablesFit};
 
 /// The groups' numbers go up by one from the oldest to the active one, and every sealed group holds
@@ -50,6 +51,12 @@ pub fn numbers_are_taken_once()
 pub fn taken_numbers_are_given_to_none()
     ensures { (first_seq first_file : ℕ) (notes : List Note) → IsLegal first_seq first_file notes
         → TakenFit (after_all (opening first_seq first_file) notes) }
+{}
+
+/// At most one flush runs, and it is of the oldest sealed group.
+pub fn flushes_are_of_the_oldest()
+    ensures { (first_seq first_file : ℕ) (notes : List Note) → IsLegal first_seq first_file notes
+        → FlushesFit (after_all (opening first_seq first_file) notes) }
 {}
 
 /// No two tables of a level of the current version have the same number. Each number lies below the next one, and
