@@ -47,7 +47,7 @@ num-distinct (v ∷ vs) num x (inr behind) is =
     let h = num-distinct vs num x behind is in
     num-first v (filter (λ w. not (eqb w.num v.num)) (distinct vs)) num (num-filtered v (distinct vs) num h.version h.among h.same_num)
 
-has-map : {A B : Type 0} (f : A → B) (xs : List A) (x : A) → Has xs x → Has (map f xs) (f x)
+pub has-map : {A B : Type 0} (f : A → B) (xs : List A) (x : A) → Has xs x → Has (map f xs) (f x)
 has-map f [] x has = absurd has
 has-map f (y ∷ ys) x (inl same) = inl (ap f same)
 has-map f (y ∷ ys) x (inr behind) = inr (has-map f ys x behind)

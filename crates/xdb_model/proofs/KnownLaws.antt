@@ -67,7 +67,7 @@ found-kept : {A : Type 0} (P : A → Type 0) (y x : A) (rest : Option A) (t : Bo
 found-kept P y x rest true e is more = let same : y ≡ x = cc in subst P same is
 found-kept P y x rest false e is more = more e
 
-found-all : {A : Type 0} (P : A → Type 0) (test : A → Bool) (xs : List A) (x : A) → find test xs ≡ Some x → AllByRecursion P xs → P x
+pub found-all : {A : Type 0} (P : A → Type 0) (test : A → Bool) (xs : List A) (x : A) → find test xs ≡ Some x → AllByRecursion P xs → P x
 found-all P test [] x e h = absurd (cc)
 found-all P test (y ∷ ys) x e h = found-kept P y x (find test ys) (test y) e h.0 (λ f. found-all P test ys x f h.1)
 
@@ -130,7 +130,7 @@ known-by p note may fit h =
 -- ---- who has a number
 
 -- not from that number on
-not-within : (file len n : ℕ) → n < file → is_within file len n ≡ false
+pub not-within : (file len n : ℕ) → n < file → is_within file len n ≡ false
 not-within file len n low = and_left (leb file n) (ltb n (file + len)) (lt-leb file n low)
 
 abbrev pub JobFree : ℕ → Job → Type 0
@@ -160,7 +160,7 @@ jobs-cancelled n load span [] h = tt
 jobs-cancelled n load span (x ∷ jobs) h =
     (subst (λ len. is_within x.first len n ≡ false) (sym (same-numbers load span x.kind)) h.0, jobs-cancelled n load span jobs h.1)
 
-jobs-installed : (n : ℕ) (load : List ℕ) (span : Option Bounds) (jobs : List Job) → JobsFree n jobs → JobsFree n (cancelled_by load span jobs)
+pub jobs-installed : (n : ℕ) (load : List ℕ) (span : Option Bounds) (jobs : List Job) → JobsFree n jobs → JobsFree n (cancelled_by load span jobs)
 jobs-installed n load None jobs h = h
 jobs-installed n load (Some span) jobs h = jobs-cancelled n load span jobs h
 
@@ -172,7 +172,7 @@ jobs-compaction : (n : ℕ) (p : Plain) (plan : Option Planned) → n < p.file �
 jobs-compaction n p None low h = jobs-none n p.jobs h
 jobs-compaction n p (Some plan) low h = jobs-push n p.jobs _ h (not-within p.file 64 n low)
 
-jobs-by : (n : ℕ) (p : Plain) (a : Act) (o : Outcome) → n < p.file → JobsFree n p.jobs → JobsFree n (jobs_after p a o)
+pub jobs-by : (n : ℕ) (p : Plain) (a : Act) (o : Outcome) → n < p.file → JobsFree n p.jobs → JobsFree n (jobs_after p a o)
 jobs-by n p act.FlushTake succeeds low h = jobs-flush n p p.sealed low h
 jobs-by n p (act.CompactTake which) succeeds low h = jobs-compaction n p (plan_now p which) low h
 jobs-by n p (act.Put job) succeeds low h = jobs-without n job p.jobs h
@@ -201,7 +201,7 @@ first-kept : (P : ℕ → Type 0) (test : ℕ → Bool) (x : ℕ) (xs : List ℕ
 first-kept P test x xs n others true e is more = let same : x ≡ n = cc in subst P same is
 first-kept P test x xs n others false e is more = more e
 
-first-all : (P : ℕ → Type 0) (test : ℕ → Bool) (xs : List ℕ) (n : ℕ) (others : List ℕ) → filter test xs ≡ n ∷ others → AllByRecursion P xs → P n
+pub first-all : (P : ℕ → Type 0) (test : ℕ → Bool) (xs : List ℕ) (n : ℕ) (others : List ℕ) → filter test xs ≡ n ∷ others → AllByRecursion P xs → P n
 first-all P test [] n others e h = absurd (cc)
 first-all P test (x ∷ xs) n others e h = first-kept P test x xs n others (test x) e h.0 (λ f. first-all P test xs n others f h.1)
 
@@ -214,19 +214,19 @@ dead-unowned p n e =
     let front = and_parts (eqb (count p n) 0 && not (is_owned p n)) (not (is_among n p.taken)) e in
     not-true (is_owned p n) (and_parts (eqb (count p n) 0) (not (is_owned p n)) front.0).1
 
-dead-open : (p : Plain) (n : ℕ) → is_dead p n ≡ true → LoadsFree n p.loads
+pub dead-open : (p : Plain) (n : ℕ) → is_dead p n ≡ true → LoadsFree n p.loads
 dead-open p n e = none-open n p.loads (or_parts (list_any (load_owns n) (open_loads p.loads)) (list_any (job_owns n) p.jobs) (dead-unowned p n e)).0
 
-dead-free : (p : Plain) (n : ℕ) → is_dead p n ≡ true → JobsFree n p.jobs
+pub dead-free : (p : Plain) (n : ℕ) → is_dead p n ≡ true → JobsFree n p.jobs
 dead-free p n e = none-owns n p.jobs (or_parts (list_any (load_owns n) (open_loads p.loads)) (list_any (job_owns n) p.jobs) (dead-unowned p n e)).1
 
 -- ---- over a whole history
 
-record Fit (p : Plain) : Type 0 where
-  files : FilesFit p
-  once : AreNamedOnce p.loads
-  known : Below p.file p.known
-  taken : TakenFit p
+pub record Fit (p : Plain) : Type 0 where
+  pub files : FilesFit p
+  pub once : AreNamedOnce p.loads
+  pub known : Below p.file p.known
+  pub taken : TakenFit p
 
 taken-below : (p : Plain) (note : Note) (r : Reply) → note.reply ≡ r → MayStand p note → Fit p → Below p.file (taken_after p.taken r)
 taken-below p note (reply.Took n) is may fit =
@@ -249,7 +249,7 @@ taken-loads p note (reply.Took n) is may fit =
     all-push (λ m. LoadsFree m p.loads) p.taken n fit.taken.of_loads (dead-open p n (first-passes (is_dead p) p.known n first.0 first.1))
 taken-loads p note _ is may fit = fit.taken.of_loads
 
-fit-after : (p : Plain) (note : Note) → MayStand p note → Fit p → Fit (after p note)
+pub fit-after : (p : Plain) (note : Note) → MayStand p note → Fit p → Fit (after p note)
 fit-after p note may fit =
     let below = taken-below p note note.reply refl may fit in
     record {
@@ -263,10 +263,13 @@ fit-after p note may fit =
       };
     }
 
-fit-all : (p : Plain) (notes : List Note) → Legal p notes → Fit p → Fit (after_all p notes)
+pub fit-all : (p : Plain) (notes : List Note) → Legal p notes → Fit p → Fit (after_all p notes)
 fit-all p [] legal fit = fit
 fit-all p (note ∷ notes) legal fit = fit-all (after p note) notes legal.1 (fit-after p note legal.0 fit)
 
+pub fit-first : (first_seq first_file : ℕ) → Fit (opening first_seq first_file)
+fit-first first_seq first_file = record { files = record { of_jobs = tt; of_loads = tt }; once = tt; known = tt; taken = record { below = tt; of_jobs = tt; of_loads = tt } }
+
 pub taken-fit : (first_seq first_file : ℕ) (notes : List Note) → Legal (opening first_seq first_file) notes → TakenFit (after_all (opening first_seq first_file) notes)
 taken-fit first_seq first_file notes legal =
-    (fit-all (opening first_seq first_file) notes legal (record { files = record { of_jobs = tt; of_loads = tt }; once = tt; known = tt; taken = record { below = tt; of_jobs = tt; of_loads = tt } })).taken
+    (fit-all (opening first_seq first_file) notes legal (fit-first first_seq first_file)).taken

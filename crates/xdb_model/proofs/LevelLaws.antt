@@ -10,7 +10,7 @@ use Rattle.xdb_plain.specs.declared.note.Note.{Note}
 use Rattle.xdb_model.specs.Numbered.{LevelsFit}
 use Rattle.xdb_edit.proofs.VersionLaws.{sorted_kept}
 
-as-many : (level : ℕ) (e : Changes) (levels : LevelLists) → length (edited_from level e levels) ≡ length levels
+pub as-many : (level : ℕ) (e : Changes) (levels : LevelLists) → length (edited_from level e levels) ≡ length levels
 as-many level e [] = refl
 as-many level e (ts ∷ rest) = ap suc (as-many (suc level) e rest)
 

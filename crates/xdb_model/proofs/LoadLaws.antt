@@ -32,7 +32,7 @@ begun-old true _ o e = false≢true e
 begun-old false reply.NameInUse o e = cc
 begun-old false _ o e = false≢true e
 
-begun-new : (p : Plain) (tables : List TableOps) (span : Option Bounds) (o : Option Load) (r : Reply) → outcome r ≡ begins → list_any (same_reply r) (load_open_replies p tables span o) ≡ true → o ≡ None
+pub begun-new : (p : Plain) (tables : List TableOps) (span : Option Bounds) (o : Option Load) (r : Reply) → outcome r ≡ begins → list_any (same_reply r) (load_open_replies p tables span o) ≡ true → o ≡ None
 begun-new p tables span None r is e = refl
 begun-new p tables span (Some l) r is e = absurd (begun-old (is_being_opened l) r is e)
 
@@ -127,7 +127,7 @@ free-in : (n : ℕ) (l : Load) (t : Bool) → LoadFree n l → LoadFree n (recor
 free-in n l true h = refl
 free-in n l false h = h
 
-free-installed : (n : ℕ) (name : List ℕ) (ls : List Load) → LoadsFree n ls → LoadsFree n (in_phase name is_in ls)
+pub free-installed : (n : ℕ) (name : List ℕ) (ls : List Load) → LoadsFree n ls → LoadsFree n (in_phase name is_in ls)
 free-installed n name [] h = tt
 free-installed n name (x ∷ ls) h = (free-in n x (same_name x.name name) h.0, free-installed n name ls h.1)
 

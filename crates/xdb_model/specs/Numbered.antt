@@ -54,3 +54,11 @@ pub record TakenFit (p : Plain) : Type 0 where
   pub below : AllByRecursion (λ n. n < p.file) p.taken
   pub of_jobs : AllByRecursion (λ n. AllByRecursion (λ j. job_owns n j ≡ false) p.jobs) p.taken
   pub of_loads : AllByRecursion (λ n. AllByRecursion (λ l. (is_open l && load_owns n l) ≡ false) p.loads) p.taken
+
+-- The tables of a level have different numbers. Each lies below the next one, and no running job and no open load
+-- has it.
+pub record TablesFit (p : Plain) : Type 0 where
+  pub distinct : AllByRecursion (λ ts. AreDistinct (map (λ t. t.num) ts)) p.current.levels
+  pub below : AllByRecursion (AllByRecursion (λ t. t.num < p.file)) p.current.levels
+  pub of_jobs : AllByRecursion (AllByRecursion (λ t. AllByRecursion (λ j. job_owns t.num j ≡ false) p.jobs)) p.current.levels
+  pub of_loads : AllByRecursion (AllByRecursion (λ t. AllByRecursion (λ l. (is_open l && load_owns t.num l) ≡ false) p.loads)) p.current.levels

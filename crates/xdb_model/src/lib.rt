@@ -5,3 +5,4 @@ pub mod causes;
 pub mod counts;
 pub mod numbers;
 pub mod refusals;
+pub mod versions;
