@@ -152,14 +152,20 @@ fn a_file_cut_and_changed(rt: HostRuntime) -> Result<(), Fail> {
 }
 
 /// Whether the point has the key and the number, and its value is `value`; 0 stands for no point.
-fn shows(found: Result<Option<Entry>, TableNo>, key: u8, seq: u64, value: u8) -> bool {
-    match found {
-        Err(_) => false,
-        Ok(None) => key == 0,
-        Ok(Some(entry)) => {
-            entry.key().bytes() == [key].as_slice()
-                && entry.seq() == seq
-                && entry.value().bytes() == [value].as_slice()
+fn shows(
+    found: Result<Option<Entry>, TableNo>,
+    key: u8,
+    seq: u64,
+    value: u8,
+) -> Result<bool, Fail> {
+    match found? {
+        None => Ok(key == 0),
+        Some(entry) => {
+            Ok(
+                entry.key().bytes() == [key].as_slice()
+                    && entry.seq() == seq
+                    && entry.value().bytes() == [value].as_slice(),
+            )
         }
     }
 }
@@ -190,7 +196,7 @@ fn stands_at(
     let found = go(alloc, points, dev, row.0)?;
     let own = u64::from(row.2.saturating_sub(b'0'));
     let seq = if synthetic == 0 { own } else { synthetic };
-    Ok(shows(found, row.1, seq, row.2))
+    shows(found, row.1, seq, row.2)
 }
 
 /// Goes over the points b and c, both ways and by keys, and tells whether each call answers what stands there.
@@ -269,7 +275,7 @@ fn span_count(points: &ViewCursor<MemFile>, dev: &mut MemDevice) -> Result<usize
 fn spans_alone(alloc: Global, dev: &mut MemDevice, lo: &[u8], hi: &[u8]) -> Result<usize, Fail> {
     let mut points = part(alloc, dev, lo, hi, 0)?;
     for call in [Call::Next, Call::Prev, Call::Ge(b'c'), Call::Lt(b'c')] {
-        if !shows(go(alloc, &mut points, dev, call)?, 0, 0, 0) {
+        if !shows(go(alloc, &mut points, dev, call)?, 0, 0, 0)? {
             return Err(Fail::from("there is a point"));
         }
     }
@@ -346,9 +352,9 @@ fn stays_in_place(
 ) -> Result<bool, Fail> {
     Ok(
         fails(go(alloc, points, dev, Call::Ge(b'c'))?)
-            && shows(go(alloc, points, dev, Call::Next)?, b'b', 2, b'2')
+            && shows(go(alloc, points, dev, Call::Next)?, b'b', 2, b'2')?
             && extent_fails(alloc, points, dev)?
-            && shows(go(alloc, points, dev, Call::Next)?, b'c', 3, b'3'),
+            && shows(go(alloc, points, dev, Call::Next)?, b'c', 3, b'3')?,
     )
 }
 
