@@ -64,27 +64,27 @@ chosen_ok true r at e = (refl, e)
 chosen_ok false r at e = absurd cc
 
 typed : (bytes : List ℕ) (n : ℕ) → length bytes ≤ n + 1 → get_or bytes n 1 ≡ 0 → (length (take n bytes) ≡ n) × (bytes ≡ take n bytes ++ 0 ∷ [])
-typed [] n short zero_ = absurd (omega arith)
-typed (b ∷ bs) zero short zero_ = (refl, λ i. zero_ i ∷ nil_from_length bs (omega arith) i)
-typed (b ∷ bs) (suc n) short zero_ =
-    let rest = typed bs n (omega arith) zero_ in
+typed [] n short is_zero = absurd (omega arith)
+typed (b ∷ bs) zero short is_zero = (refl, λ i. is_zero i ∷ nil_from_length bs (omega arith) i)
+typed (b ∷ bs) (suc n) short is_zero =
+    let rest = typed bs n (omega arith) is_zero in
     (ap suc rest.0, ap (λ xs. b ∷ xs) rest.1)
 
 range_fits : (file : List ℕ) (from to : ℕ) → AreBytes file → AreBytes (slice_range file from to)
 range_fits file from to fits = AreBytes-take (to - from) (drop from file) (AreBytes-drop from file fits)
 
-short_range : (file : List ℕ) (n m : ℕ) → length (take n file) ≤ n
-short_range [] zero m = omega arith
-short_range [] (suc n) m = omega arith
-short_range (x ∷ xs) zero m = omega arith
-short_range (x ∷ xs) (suc n) m = let rest = short_range xs n m in omega arith
+short_range : (bytes : List ℕ) (n : ℕ) → length (take n bytes) ≤ n
+short_range [] zero = omega arith
+short_range [] (suc n) = omega arith
+short_range (x ∷ xs) zero = omega arith
+short_range (x ∷ xs) (suc n) = let rest = short_range xs n in omega arith
 
 pub part_takes : (kind : BlockKind) (p : Part) (file : List ℕ) (rows : List Row) → AreBytes file → part_at kind p file ≡ Ok rows → TakesPart kind p file rows
 part_takes kind p file rows fits e =
     let bytes = slice_range file p.at (behind p) in
     let front = take p.len bytes in
     let c = chosen_ok (eqb (get_or bytes p.len 1) 0) (in_block p.at (block_at 16 kind front)) p.at e in
-    let few = short_range (drop p.at file) (behind p - p.at) 0 in
+    let few = short_range (drop p.at file) (behind p - p.at) in
     let t = typed bytes p.len (omega arith) (eqb-true (get_or bytes p.len 1) 0 c.0) in
     let whole = range_fits file p.at (behind p) fits in
     let front_bytes = AreBytes-take p.len bytes whole in
