@@ -69,7 +69,7 @@ length-parts b bs = ap length (flat_map-cons (part_bytes 16) b bs) ∙ length-ap
 
 -- ---- handles
 
-handle_reads : (k : List ℕ) (at len : ℕ) → at < 2 ^ 63 → len < 2 ^ 63 → handle (row k (handle_bytes at len)) ≡ part at len
+pub handle_reads : (k : List ℕ) (at len : ℕ) → at < 2 ^ 63 → len < 2 ^ 63 → handle (row k (handle_bytes at len)) ≡ part at len
 handle_reads k at len small_at small_len =
     let first : varint_at (handle_bytes at len) ≡ Ok (at, varint len) = varint_at-again at (varint len) small_at in
     let second : varint_at (varint len) ≡ Ok (len, []) = ap varint_at (sym (append-nil (varint len))) ∙ varint_at-again len [] small_len in

@@ -11,3 +11,7 @@ pub mod ReachLaws
 pub mod ClipLaws
 pub mod AgainLaws
 pub mod FooterLaws
+pub mod TakenLaws
+pub mod SpelledLaws
+pub mod ContentLaws
+pub mod OneLaws

@@ -6,3 +6,5 @@ pub mod Tables
 pub mod Views
 pub mod Cursors
 pub mod Reaches
+pub mod Grammar
+pub mod Contents

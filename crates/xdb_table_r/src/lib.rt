@@ -20,3 +20,6 @@ pub use error::TableNo;
 pub use std::alloc::AllocError as Memory;
 pub use table::TableFile;
 pub use view::View;
+
+#[cfg(test)]
+mod tests;
