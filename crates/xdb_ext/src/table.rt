@@ -124,9 +124,9 @@ fn entry(op: &Op) -> Result<Option<Entry>, AllocError>
     match op {
         Op::Set { key, value } => {
             let key = key.copy()?;
-            Ok(Some(Entry::set(key, NUMBER, value.copy()?)))
+            Ok(Some(Entry::set(key, NUMBER, value.copy()?)?))
         }
-        Op::Del { key } => Ok(Some(Entry::del(key.copy()?, NUMBER))),
+        Op::Del { key } => Ok(Some(Entry::del(key.copy()?, NUMBER)?)),
         Op::DelSpan { .. } => Ok(None),
     }
 }

@@ -5,10 +5,18 @@ ghost use Rattle.xdb_key.specs.Entries.{point, tombstone, reach, IsReach};
 use crate::{Bound, Key, KeyRange, Kind, Val};
 use std::alloc::AllocError;
 use std::marker::Model;
+use std::sync::Arc;
 
 /// A point: what is said of one key at one number. Its kind is `Set`, or `Del` without a value.
+/// Copies share what they say.
 #[derive(Debug, Drop)]
 pub struct Entry {
+    said: Arc<Said>,
+}
+
+/// What an entry says.
+#[derive(Debug, Drop)]
+struct Said {
     key: Key,
     seq: u64,
     kind: Kind,
@@ -16,85 +24,86 @@ pub struct Entry {
 }
 
 impl Model for Entry {
+    ghost use Rattle.std.specs.Arc.{arc_value};
     ghost use Rattle.xdb_key.specs.Entries.{Point, point, IsPoint};
 
     ghost Value = { Point };
 
-    ghost view = { λ e. point e.key e.seq e.kind e.value };
+    ghost view = { λ e. let said = arc_value e.said in point said.key said.seq said.kind said.value };
 
-    ghost invariant = { λ e. IsPoint (point e.key e.seq e.kind e.value) };
+    ghost invariant = { λ e. let said = arc_value e.said in IsPoint (point said.key said.seq said.kind said.value) };
 }
 
 impl Entry {
-    pub fn set(key: Key, seq: u64, value: Val) -> Self
+    pub fn set(key: Key, seq: u64, value: Val) -> Result<Self, AllocError>
         requires { seq < 2 ^ 56 }
-        ensures { result ≡ point key seq Kind.Set value }
+        ensures { IfOk result (λ entry. entry ≡ point key seq Kind.Set value) }
     {
-        Entry {
-            key,
-            seq,
-            kind: Kind::Set,
-            value,
-        }
+        let kind = Kind::Set;
+        let said = Arc::new(
+            key.allocator(),
+            Said {
+                key,
+                seq,
+                kind,
+                value,
+            },
+        )?;
+        Ok(Entry { said })
     }
 
-    /// A delete at the number. The empty value takes no memory.
-    pub fn del(key: Key, seq: u64) -> Self
+    /// A delete at the number.
+    pub fn del(key: Key, seq: u64) -> Result<Self, AllocError>
         requires { seq < 2 ^ 56 }
-        ensures { result ≡ point key seq Kind.Del [] }
+        ensures { IfOk result (λ entry. entry ≡ point key seq Kind.Del []) }
     {
-        let value = Val::empty(key.allocator());
-        Entry {
-            key,
-            seq,
-            kind: Kind::Del,
-            value,
-        }
+        let alloc = key.allocator();
+        let value = Val::empty(alloc);
+        let kind = Kind::Del;
+        let said = Arc::new(
+            alloc,
+            Said {
+                key,
+                seq,
+                kind,
+                value,
+            },
+        )?;
+        Ok(Entry { said })
     }
 
     pub fn key(&self) -> &Key
         ensures { result.now ≡ self.now.key }
     {
-        &self.key
+        &self.said.key
     }
 
     pub fn seq(&self) -> u64
         ensures seq { result ≡ self.now.seq }
         ensures small { self.now.seq < 2 ^ 56 }
     {
-        self.seq
+        self.said.seq
     }
 
     pub fn kind(&self) -> Kind
         ensures { result ≡ self.now.kind }
     {
-        self.kind
+        self.said.kind
     }
 
     pub fn value(&self) -> &Val
         ensures { result.now ≡ self.now.value }
     {
-        &self.value
+        &self.said.value
     }
 
-    /// Gives the key and the value back, without memory.
-    pub fn into_parts(self) -> (Key, Val)
-        ensures { result ≡ (self.key, self.value) }
-    {
-        (self.key, self.value)
-    }
-
+    /// An equal entry, which shares the bytes. It takes no memory; an error means that there are as
+    /// many copies as may be.
     pub fn copy(&self) -> Result<Self, AllocError>
         ensures { IfOk result (λ entry. entry ≡ self.now) }
     {
-        let key = self.key.copy()?;
-        let value = self.value.copy()?;
-        Ok(Entry {
-            key,
-            seq: self.seq,
-            kind: self.kind,
-            value,
-        })
+        let said = Arc::try_clone(&self.said)?;
+        Ok(Entry { said })
     }
 }
 

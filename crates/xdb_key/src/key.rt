@@ -8,14 +8,15 @@ ghost use Rattle.xdb_key.specs.Bounds.{successor};
 ghost use Rattle.xdb_key.specs.Order.{key_cmp};
 
 use crate::{KeyNo, MAX_BOUND, MAX_KEY, compare};
+use smallvec::SmallVec;
 use std::alloc::{AllocError, Global};
 use std::cmp::Ordering;
 use std::marker::Model;
 
-/// A user key: 1 to 1,024 bytes, in bytewise order.
+/// A user key: 1 to 1,024 bytes, in bytewise order. Up to 16 bytes stand in the key itself.
 #[derive(Debug, Drop)]
 pub struct Key {
-    bytes: Vec<u8>,
+    bytes: SmallVec<u8, 16>,
 }
 
 impl Model for Key {
@@ -35,7 +36,9 @@ impl Key {
         match bytes.len() {
             0 => Err(KeyNo::Empty),
             len if len > MAX_KEY => Err(KeyNo::TooLong { len }),
-            _ => Ok(Key { bytes }),
+            _ => Ok(Key {
+                bytes: SmallVec::from_vec(bytes),
+            }),
         }
     }
 
@@ -43,7 +46,7 @@ impl Key {
         ensures bytes { result.now ≡ self.now }
         ensures key { IsKey self.now }
     {
-        &self.bytes
+        self.bytes.as_slice()
     }
 
     /// The allocator that the key is kept by.
@@ -54,7 +57,7 @@ impl Key {
     pub fn copy(&self) -> Result<Self, AllocError>
         ensures { IfOk result (λ key. key ≡ self.now) }
     {
-        let bytes = Vec::from_slice(*self.bytes.allocator(), &self.bytes)?;
+        let bytes = SmallVec::from_slice(*self.bytes.allocator(), self.bytes.as_slice())?;
         Ok(Key { bytes })
     }
 
@@ -62,8 +65,8 @@ impl Key {
     pub fn successor(&self) -> Result<Bound, AllocError>
         ensures { IfOk result (λ bound. bound ≡ successor self.now) }
     {
-        let mut bytes = Vec::with_capacity(*self.bytes.allocator(), self.bytes.len() + 1)?;
-        bytes.extend_from_slice(&self.bytes)?;
+        let mut bytes = SmallVec::with_capacity(*self.bytes.allocator(), self.bytes.len() + 1)?;
+        bytes.extend_from_slice(self.bytes.as_slice())?;
         bytes.push(0)?;
         Ok(Bound { bytes })
     }
@@ -72,7 +75,7 @@ impl Key {
     pub fn bound(&self) -> Result<Bound, AllocError>
         ensures { IfOk result (λ bound. bound ≡ self.now) }
     {
-        let bytes = Vec::from_slice(*self.bytes.allocator(), &self.bytes)?;
+        let bytes = SmallVec::from_slice(*self.bytes.allocator(), self.bytes.as_slice())?;
         Ok(Bound { bytes })
     }
 
@@ -107,7 +110,7 @@ impl Ord for Key {
     ghost matches_eq = { texts_ties };
 
     fn cmp(&self, other: &Key) -> Ordering {
-        compare(&self.bytes, &other.bytes)
+        compare(self.bytes.as_slice(), other.bytes.as_slice())
     }
 }
 
@@ -121,10 +124,10 @@ impl PartialOrd for Key {
     }
 }
 
-/// An end of a range: 1 to 1,025 bytes, in bytewise order.
+/// An end of a range: 1 to 1,025 bytes, in bytewise order. Up to 16 bytes stand in the bound itself.
 #[derive(Debug, Drop)]
 pub struct Bound {
-    bytes: Vec<u8>,
+    bytes: SmallVec<u8, 16>,
 }
 
 impl Model for Bound {
@@ -144,7 +147,9 @@ impl Bound {
         match bytes.len() {
             0 => Err(KeyNo::Empty),
             len if len > MAX_BOUND => Err(KeyNo::TooLong { len }),
-            _ => Ok(Bound { bytes }),
+            _ => Ok(Bound {
+                bytes: SmallVec::from_vec(bytes),
+            }),
         }
     }
 
@@ -152,13 +157,13 @@ impl Bound {
         ensures bytes { result.now ≡ self.now }
         ensures bound { IsBound self.now }
     {
-        &self.bytes
+        self.bytes.as_slice()
     }
 
     pub fn copy(&self) -> Result<Self, AllocError>
         ensures { IfOk result (λ bound. bound ≡ self.now) }
     {
-        let bytes = Vec::from_slice(*self.bytes.allocator(), &self.bytes)?;
+        let bytes = SmallVec::from_slice(*self.bytes.allocator(), self.bytes.as_slice())?;
         Ok(Bound { bytes })
     }
 
@@ -193,7 +198,7 @@ impl Ord for Bound {
     ghost matches_eq = { texts_ties };
 
     fn cmp(&self, other: &Bound) -> Ordering {
-        compare(&self.bytes, &other.bytes)
+        compare(self.bytes.as_slice(), other.bytes.as_slice())
     }
 }
 

@@ -89,7 +89,7 @@ fn operations_are_copied(rt: HostRuntime) -> Result<(), Fail> {
 #[test]
 fn entries_are_copied(rt: HostRuntime) -> Result<(), Fail> {
     let value = Val::new(vec![in rt.alloc(); b'1']?);
-    let set = Entry::set(key(rt.alloc(), b'a')?, 2, value).copy()?;
+    let set = Entry::set(key(rt.alloc(), b'a')?, 2, value)?.copy()?;
     assert!(rt; set.seq() == 2);
     assert!(rt; set.value().bytes() == b"1".as_slice());
     let span = Span::new(range(rt.alloc(), b'a', b'c')?, 7).copy()?;

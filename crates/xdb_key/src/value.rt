@@ -1,12 +1,13 @@
 ghost use Rattle.std.specs.Prelude.{◌≡◌, ◌↔◌, ℕ, List, [], IsTrue, IfOk};
 
+use smallvec::SmallVec;
 use std::alloc::{AllocError, Global};
 use std::marker::Model;
 
-/// The bytes of a value.
+/// The bytes of a value. Up to 16 stand in the value itself.
 #[derive(Debug, Drop)]
 pub struct Val {
-    bytes: Vec<u8>,
+    bytes: SmallVec<u8, 16>,
 }
 
 impl Model for Val {
@@ -19,7 +20,9 @@ impl Val {
     pub fn new(bytes: Vec<u8>) -> Self
         ensures { result ≡ bytes.items }
     {
-        Val { bytes }
+        Val {
+            bytes: SmallVec::from_vec(bytes),
+        }
     }
 
     /// The value of no bytes. It takes no memory.
@@ -27,27 +30,20 @@ impl Val {
         ensures { result ≡ [] }
     {
         Val {
-            bytes: Vec::new(alloc),
+            bytes: SmallVec::new(alloc),
         }
     }
 
     pub fn bytes(&self) -> &[u8]
         ensures { result.now ≡ self.now }
     {
-        &self.bytes
-    }
-
-    /// Gives the bytes back, without memory.
-    pub fn into_bytes(self) -> Vec<u8>
-        ensures { result.items ≡ self }
-    {
-        self.bytes
+        self.bytes.as_slice()
     }
 
     pub fn copy(&self) -> Result<Self, AllocError>
         ensures { IfOk result (λ value. value ≡ self.now) }
     {
-        let bytes = Vec::from_slice(*self.bytes.allocator(), &self.bytes)?;
+        let bytes = SmallVec::from_slice(*self.bytes.allocator(), self.bytes.as_slice())?;
         Ok(Val { bytes })
     }
 

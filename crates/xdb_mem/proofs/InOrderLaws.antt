@@ -1,6 +1,6 @@
 -- Internal order is total. What is found in a list in internal order, and what is put into it.
 use Rattle.std.proofs.Common.{◌≡◌, ℕ, ◌+◌, ◌*◌, ◌<◌, Bool, true, false, not, List, [], ◌∷◌, ◌++◌, length, get_or, take, drop, inl, inr, IsTrue, refl, sym, ap, ◌∙◌, subst, arith}
-use Rattle.std.proofs.lemmas.Bool.{cases_order, and_from, and_left, and_right, false≢true, true≢false}
+use Rattle.std.proofs.lemmas.Bool.{cases_eq, cases_order, and_from, and_left, and_right, false≢true, true≢false}
 use Rattle.std.proofs.lemmas.Cmp.{on_total, then_total, back_total, nat_cmp_total}
 use Rattle.std.proofs.lemmas.List.{get_or_default, get_or-drop, length-drop, append-nil, take-append-drop}
 use Rattle.std.proofs.lemmas.List.Elements.{All-take, filter-append}
@@ -47,6 +47,15 @@ pub before_keys : (p q : Point) → comes_before p q ≡ true → is_upto p.key 
 before_keys p q h = then_lt (key_cmp p.key q.key) (nat_cmp (trailer q.seq q.kind) (trailer p.seq p.kind)) h
 
 -- what passes a test also passes where it stands earlier
+-- all entries stand before what the last one stands before
+pub last-before : (ps : List Point) (n : ℕ) (x e : Point) → AreInOrder ps → n + 1 ≡ length ps → comes_before (get_or ps n x) e ≡ true → (k : ℕ) (d : Point) → k < length ps → comes_before (get_or ps k d) e ≡ true
+last-before ps n x e order long h k d less =
+    let last : comes_before (get_or ps n d) e ≡ true = ap (λ p. comes_before p e) (get_or_default ps n d x (omega arith)) ∙ h in
+    elim (cases_eq k n) [
+      | inl same ↦ ap (λ i. comes_before (get_or ps i d) e) same ∙ last
+      | inr ne ↦ before_trans (get_or ps k d) (get_or ps n d) e (order k n d (omega arith) (omega arith)) last
+    ]
+
 partitioned_by : (t : Point → Bool) (ps : List Point) → AreInOrder ps → ((p q : Point) → comes_before p q ≡ true → t q ≡ true → t p ≡ true) → IsPartitionedBy t ps
 partitioned_by t ps order step = λ i j d i_le_j inside h. elim (cases_order i j) [
   | inl e ↦ ap (λ n. t (get_or ps n d)) e ∙ h

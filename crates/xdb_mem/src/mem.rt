@@ -50,9 +50,8 @@ impl Mem {
     }
 
     /// Adds the batch's operations, numbered from `first` on. Each key and value is copied once. An
-    /// entry's place is found by one binary search; the entries behind it move by one place, and
-    /// their keys and values stay where they are. An error means that memory ran out, and leaves the
-    /// memtable as it was.
+    /// entry's place is found by one binary search; the entries behind it move by one place, 8 bytes
+    /// each. An error means that memory ran out, and leaves the memtable as it was.
     pub fn insert(&mut self, first: u64, batch: &Batch) -> Result<(), AllocError>
         requires from { 1 ≤ first }
         requires upto { first + length batch.now ≤ 2 ^ 56 }
@@ -101,7 +100,7 @@ impl Mem {
         &self.spans
     }
 
-    /// The whole content: a copy of each entry, and fragments. An error means that memory ran out.
+    /// The whole content: a share of each entry, and fragments. An error means that memory ran out.
     pub fn parts(&self) -> Result<MemParts, AllocError>
         ensures entries { IfOk result (λ parts. SameMembers parts.entries (points self.now)) }
         ensures order { IfOk result (λ parts. AreInOrder parts.entries) }

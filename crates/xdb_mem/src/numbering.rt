@@ -26,10 +26,10 @@ fn add_entry(out: &mut Vec<Entry>, seq: u64, op: &Op) -> Result<(), AllocError>
 {
     match op {
         Op::Set { key, value } => {
-            out.push(Entry::set(key.copy()?, seq, value.copy()?))?;
+            out.push(Entry::set(key.copy()?, seq, value.copy()?)?)?;
         }
         Op::Del { key } => {
-            out.push(Entry::del(key.copy()?, seq))?;
+            out.push(Entry::del(key.copy()?, seq)?)?;
         }
         Op::DelSpan { .. } => {}
     }

@@ -114,6 +114,7 @@ fn put_below(out: &mut Vec<Entry>, entries: &[Entry], below: u64) -> Result<(), 
     ensures order { AreInOrder out.new.items }
     ensures members { OnOk result (SameMembers out.new.items (out.old.items ++ filter (λ p. nat_lt p.seq below) entries.now)) }
 {
+    out.try_reserve(entries.len())?;
     for entry in entries {
         if entry.seq() < below {
             sorted::put(out, entry.copy()?)?;

@@ -1,7 +1,7 @@
 //! Lists of entries in internal order: by user key, and at one user key the greatest number first, as
 //! in LevelDB's and Pebble's memtables.
 ghost use Rattle.std.specs.Prelude.{◌≡◌, ◌≤◌, ◌<◌, ◌+◌, ◌&&◌, true, false, [], ◌∷◌, ◌++◌, length, vec_len, vec_capacity, slice_index_or, IsTrue, IsOk, OnOk, OnErr};
-ghost use Rattle.std.specs.List.{filter};
+ghost use Rattle.std.specs.List.{filter, All};
 ghost use Rattle.std.specs.List.Sorted.{IsPartitionPoint};
 ghost use Rattle.xdb_key.specs.Bounds.{holds};
 ghost use Rattle.xdb_key.specs.Kinds.{trailer};
@@ -47,13 +47,25 @@ pub fn put(entries: &mut Vec<Entry>, entry: Entry) -> Result<(), AllocError>
     Ok(())
 }
 
-/// How many entries stand before this one.
+/// How many entries stand before this one. Where it stands behind the last one, no search is done.
 fn place(entries: &[Entry], entry: &Entry) -> usize
     requires { AreInOrder entries.now }
     ensures bound { result ≤ length entries.now }
     ensures split { IsPartitionPoint (λ p. comes_before p entry.now ≡ true) (λ p. comes_before p entry.now ≡ false) entries.now result }
 {
+    if is_last(entries, entry) {
+        return entries.len();
+    }
     entries.partition_point(|other| comes_before(other, entry))
+}
+
+/// Whether the last of the entries stands before this one.
+fn is_last(entries: &[Entry], entry: &Entry) -> bool
+    requires { AreInOrder entries.now }
+    ensures { IsTrue result → All (λ p. comes_before p entry.now ≡ true) entries.now }
+{
+    let count = entries.len();
+    count > 0 && comes_before(&entries[count - 1], entry)
 }
 
 /// Whether the entry at the place doesn't stand behind this one.

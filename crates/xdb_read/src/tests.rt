@@ -202,7 +202,7 @@ fn a_point_wins_a_tie_with_a_span(rt: HostRuntime) -> Result<(), Fail> {
     let spans = Fragments::from_spans(alloc, &spans)?;
     for (seq, shown) in [(4, false), (5, true), (6, true)] {
         let value = Val::new("1".as_bytes().to_vec(alloc)?);
-        let entry = Entry::set(key(alloc, "b")?, seq, value);
+        let entry = Entry::set(key(alloc, "b")?, seq, value)?;
         assert!(rt; sight::is_shown(&spans, 9, &entry) == shown);
     }
     Ok(())

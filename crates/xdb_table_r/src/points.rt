@@ -143,10 +143,10 @@ fn entry_in(
         window.synthetic
     };
     if trailer % 256 == 0 {
-        return Ok(Some(Entry::del(key, seq)));
+        return Ok(Some(Entry::del(key, seq)?));
     }
     let value = Val::new(value.to_vec(alloc)?);
-    Ok(Some(Entry::set(key, seq, value)))
+    Ok(Some(Entry::set(key, seq, value)?))
 }
 
 /// Adds what the window shows of a point block.

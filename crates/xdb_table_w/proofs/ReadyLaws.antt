@@ -17,6 +17,7 @@ use Rattle.std.specs.Option.{option_map}
 use Rattle.xdb_table_w.specs.Content.{content, last_of}
 use Rattle.xdb_table_w.specs.Extents.{user, end, numbers, IsExtent, Spread, both, lesser, greater, hull_end}
 use Rattle.xdb_table_w.specs.Files.{AreCut, joined, len_of, part, index_from, index, table_bytes, IsTable}
+use Rattle.xdb_rangedel.specs.Members.{Has}
 use Rattle.xdb_table_w.specs.Halves.{rows_in, points_in, first_of, IsPointBlock, HasEnded, ArePoints, AreSpans, IsHalf, closed, IsReady}
 use Rattle.xdb_table_w.proofs.CutLaws.{all_cut, last_cut, open_rows}
 use Rattle.xdb_table_w.proofs.FollowLaws.{blocks_follow, last_point, joined-cons}
@@ -178,10 +179,19 @@ hi_some [] [] some = absurd (omega arith)
 hi_some [] (r ∷ rs) some = last_some r rs
 hi_some (r ∷ rs) spans some = refl
 
+-- what some numbers lie between rises
+between-rises : (lo hi n : ℕ) (ns : List ℕ) → AllByRecursion (λ m. (lo ≤ m) × (m ≤ hi)) ns → Has ns n → lo ≤ hi
+between-rises lo hi n [] all has = absurd has
+between-rises lo hi n (m ∷ ns) all has =
+    let low : lo ≤ m = all.0.0 in
+    let high : m ≤ hi = all.0.1 in
+    omega arith
+
 pub record Ranged (points spans : List Row) (first hull lo hi : Option (List ℕ)) (s : Seqs) : Type 0 where
   pub some_lo : (is_some first || is_some lo) ≡ true
   pub some_hi : (is_some hull || is_some hi) ≡ true
   pub ordered : is_below (lesser first lo) (greater hull hi) ≡ true
+  pub rising : s.lo ≤ s.hi
   pub small : s.hi < 2 ^ 56
   pub extent : IsExtent (content points spans) (reach (bounds (lesser first lo) (greater hull hi)) s.lo s.hi)
 
@@ -194,6 +204,7 @@ ranged points spans first last hull lo hi point_seqs span_seqs s p q some hull_i
       some_lo = lo_some points spans some;
       some_hi = hi_some points spans some;
       ordered = extent_ordered points spans (extent_of points spans s) q.follow some extent;
+      rising = between-rises s.lo s.hi s.lo (numbers points ++ numbers spans) spread.0 spread.1;
       small = spread.3;
       extent = extent;
     } in

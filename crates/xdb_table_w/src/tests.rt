@@ -18,7 +18,7 @@ fn set(writer: &mut TableWriter, key: Key, seq: u64, value: Vec<u8>) -> Result<(
     if seq >= 1 << 56 {
         return Err(Fail::from("the number is too great"));
     }
-    let entry = Entry::set(key, seq, Val::new(value));
+    let entry = Entry::set(key, seq, Val::new(value))?;
     if !writer.can_add(&entry) {
         return Err(Fail::from("the points are out of order"));
     }

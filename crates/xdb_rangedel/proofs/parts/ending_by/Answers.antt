@@ -13,4 +13,4 @@ pub returns : goal.returns
 returns c =
     let h : is_below c.args.at.now c.args.span.range.hi ≡ true = cc in
     let lo : c.into_bounds-lo.result.0 ≡ c.args.span.range.lo = ap (λ p. p.0) c.into_bounds-lo.ensures ∙ ap (λ r. r.lo) c.into_range.ensures in
-    ending_by-made c.args.at.now c.args.span _ _ _ _ _ h c.new-2.ensures c.in-Ok.ensures.made lo c.in_ok-copy.ensures c.seq-seq.ensures.seq
+    ending_by-made c.args.at.now c.args.span _ _ _ _ _ h c.new-3.ensures c.in-Ok.ensures.made lo c.in_ok-copy.ensures c.seq-seq.ensures.seq

@@ -70,6 +70,17 @@ extent-requires-clause-ordered c =
     let found = ranged (points_in w.blocks.items w.block) w.spans.rows w.first w.last.items c.in_ok-last.last w.lo w.hi w.point_seqs w.span_seqs c.in-Some.seqs c.self.invariant.points c.self.invariant.ranges some hull (sym c.both.ensures ∙ c.in-Some.is) in
     found.ordered
 
+pub extent-requires-clause-numbers : goal.extent-requires-clause-numbers
+extent-requires-clause-numbers c =
+    let w = c.self.inside in
+    let some = subst (λ (v : Content). 1 ≤ length v.points + length v.spans) (sym c.self.view_is) c.requires in
+    let k = close_all w.blocks.items w.block w.spans w.first w.last.items w.lo w.hi w.point_seqs w.span_seqs c.close.new.blocks.items c.self.invariant some c.in_ok-close.ensures in
+    let blocks = c.close.new.blocks.items in
+    let index_is = c.in_ok-bytes.ensures.written ∙ ap (λ bs. let d : Draft = record { interval = 16; rows = index 16 (rows_in bs) } in d) c.deref.ensures.value in
+    let hull = c.in_ok-last.ensures ∙ ap (λ (d : Draft). hull_end d.rows) index_is ∙ hull_of_index blocks k.ready.point_blocks ∙ ap hull_end k.is in
+    let found = ranged (points_in w.blocks.items w.block) w.spans.rows w.first w.last.items c.in_ok-last.last w.lo w.hi w.point_seqs w.span_seqs c.in-Some.seqs c.self.invariant.points c.self.invariant.ranges some hull (sym c.both.ensures ∙ c.in-Some.is) in
+    found.rising
+
 pub extent-requires-clause-small : goal.extent-requires-clause-small
 extent-requires-clause-small c =
     let w = c.self.inside in
