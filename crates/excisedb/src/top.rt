@@ -51,7 +51,7 @@ pub fn top<S: Source, K: Sink, D: Device>(
         Err(DevNo::Failed) => return Status::ReadFault,
         Err(DevNo::Memory) => return Status::Memory,
     }
-    match reply_to(alloc, &bytes, &mut devs[0]) {
+    match reply_to(alloc, bytes, &mut devs[0]) {
         Ok((status, text)) => send(out, &text, status),
         Err(AllocError) => Status::Memory,
     }
@@ -60,14 +60,18 @@ pub fn top<S: Source, K: Sink, D: Device>(
 /// The text that the bytes of a script get, and the status that it goes with.
 fn reply_to<D: Device>(
     alloc: Global,
-    bytes: &[u8],
+    bytes: Vec<u8>,
     dev: &mut D,
 ) -> Result<(Status, Vec<u8>), AllocError>
-    ensures reply { IfOk result (λ reply. Replies bytes.now reply.0 reply.1.items) }
+    ensures reply { IfOk result (λ reply. Replies bytes.items reply.0 reply.1.items) }
     ensures device { dev.new ≡ dev.old }
 {
-    match parse(alloc, bytes, ScriptForm::Run) {
-        Ok(script) => reply_to_script(alloc, script, dev),
+    match parse(alloc, &bytes, ScriptForm::Run) {
+        Ok(script) => {
+            // The run has no need of them.
+            drop(bytes);
+            reply_to_script(alloc, script, dev)
+        }
         Err(ScriptNo::BadLine { line, why }) => {
             let text = refusal(alloc, line, why)?;
             Ok((Status::Script, text))

@@ -1,7 +1,9 @@
 -- The state that a run and an engine have come to.
-use Rattle.std.proofs.Common.{◌≡◌, ℕ, ◌+◌, ◌≤◌, Bool, true, false, not, ◌&&◌, ◌||◌, eqb, List, [], ◌∷◌, ◌++◌, append-nil, append_assoc, map, Option, Some, None, is_some, refl, sym, ap, ◌∙◌, subst, arith}
-use Rattle.std.specs.List.{All}
-use Rattle.std.proofs.lemmas.List.Folds.{list_any-append}
+use Rattle.std.proofs.Common.{◌≡◌, ℕ, ◌+◌, ◌≤◌, Bool, true, false, not, ◌&&◌, ◌||◌, eqb, List, [], ◌∷◌, ◌++◌, append-nil, append_assoc, reverse, map, Option, Some, None, is_some, refl, sym, ap, ◌∙◌, subst, arith}
+use Rattle.std.specs.List.{All, list_all}
+use Rattle.std.proofs.lemmas.Bool.{and_parts}
+use Rattle.std.proofs.lemmas.List.{reverse-append, reverse-reverse}
+use Rattle.std.proofs.lemmas.List.Folds.{list_any-append, list_all-append}
 use Rattle.xdb_engine.proofs.ListLaws.{under-number, under-all}
 use Rattle.xdb_engine.proofs.QuestionLaws.{found-plain}
 use Rattle.xdb_engine.specs.Notes.{plain_note}
@@ -21,7 +23,8 @@ use Rattle.xdb_plain.specs.declared.reply.Reply.{Reply}
 use Rattle.xdb_plain.specs.declared.script.Cmd.{Cmd}
 use Rattle.xdb_plain.specs.declared.script.Line.{Line}
 use Rattle.xdb_plain.proofs.RunLaws.{blocks-push, behind-push, run-ends}
-use Rattle.xdb_run.specs.Running.{Awaits, IsAt, Takes, HasTaken, IsHeard}
+use Rattle.xdb_run.specs.Built.{is_run}
+use Rattle.xdb_run.specs.Running.{Awaits, IsAt, Takes, HasTaken, StillTakes, IsHeard}
 
 -- ---- the plain state
 
@@ -40,6 +43,10 @@ asked-grows p (note ∷ notes) =
 after_all-append : (p : Plain) (notes more : List Note) → after_all p (notes ++ more) ≡ after_all (after_all p notes) more
 after_all-append p [] more = refl
 after_all-append p (note ∷ notes) more = after_all-append (after p note) notes more
+
+-- the line that is taken from those left
+front-left : (left rest : List Line) (line : Line) → left ≡ rest ++ line ∷ [] → reverse left ≡ line ∷ reverse rest
+front-left left rest line is = ap reverse is ∙ reverse-append rest (line ∷ [])
 
 module _ {F : Type 0} where
   pub added-plain : (old new : Seen F) (block : List Note) → new.notes ≡ old.notes ++ block → new.first_seq ≡ old.first_seq → new.first_file ≡ old.first_file → plain_of new ≡ after_all (plain_of old) block
@@ -138,6 +145,28 @@ module _ {F : Type 0} where
         blocks = subst (λ ns. AreBlocks r (lines ++ line ∷ []) ns) (sym takes.added) (blocks-push r lines old.notes line takes.block taken.blocks block);
         here = subst (λ x. IsAt x new) (sym (ap (λ ns. run_over r (lines ++ line ∷ []) ns) takes.added ∙ behind)) (takes.goes_on (run_over r lines old.notes) taken.here);
       }
+
+  -- ---- lines one after another
+
+  pub first-left : (script left : List Line) (e : Seen F) → left ≡ reverse script → HasTaken [] e → StillTakes script left e
+  first-left script left e is has = record { taken = []; whole = sym (ap reverse is ∙ reverse-reverse script); has = has }
+
+  pub next-run : (script left rest : List Line) (line : Line) (e : Seen F) → StillTakes script left e → left ≡ rest ++ line ∷ [] → list_all is_run script ≡ true → is_run line ≡ true
+  next-run script left rest line e takes is all =
+      let whole : script ≡ takes.taken ++ line ∷ reverse rest = takes.whole ∙ ap (λ ls. takes.taken ++ ls) (front-left left rest line is) in
+      let parts = and_parts (list_all is_run takes.taken) (list_all is_run (line ∷ reverse rest)) (sym (list_all-append is_run takes.taken (line ∷ reverse rest)) ∙ sym (ap (list_all is_run) whole) ∙ all) in
+      (and_parts (is_run line) (list_all is_run (reverse rest)) parts.1).0
+
+  pub next-taken : (script left rest : List Line) (line : Line) (old new : Seen F) → StillTakes script left old → left ≡ rest ++ line ∷ [] → Takes old new line.by line.cmd → StillTakes script rest new
+  next-taken script left rest line old new takes is more = record {
+    taken = takes.taken ++ line ∷ [];
+    whole = takes.whole ∙ ap (λ ls. takes.taken ++ ls) (front-left left rest line is) ∙ sym (append_assoc takes.taken (line ∷ []) (reverse rest));
+    has = taken-pushed takes.taken line old new takes.has more;
+  }
+
+  pub none-left : (script left : List Line) (e : Seen F) → StillTakes script left e → left ≡ [] → HasTaken script e
+  none-left script left e takes none =
+      subst (λ ls. HasTaken ls e) (sym (takes.whole ∙ ap (λ ls. takes.taken ++ reverse ls) none ∙ append-nil takes.taken)) takes.has
 
   -- the lines are a run where there is nothing to remove
   pub run-whole : (lines given : List Line) (e : Seen F) (notes : List Note) → given ≡ lines → HasTaken given e → notes ≡ e.notes → dead (plain_of e) ≡ [] → IsRunOf 1 1 lines notes

@@ -1,5 +1,5 @@
 -- How far an engine has come in the run of a script.
-use Rattle.std.specs.Prelude.{◌≡◌, ◌≤◌, ℕ, Bool, true, false, List, ◌++◌, map, All, Option, Some, None, Result, is_some, IfOk}
+use Rattle.std.specs.Prelude.{◌≡◌, ◌≤◌, ℕ, Bool, true, false, List, ◌++◌, reverse, map, All, Option, Some, None, Result, is_some, IfOk}
 use Rattle.std.specs.declared.alloc.AllocError.{AllocError}
 use Rattle.xdb_engine.specs.Questions.{Asking, heard}
 use Rattle.xdb_engine.specs.Seen.{Seen, plain_of}
@@ -41,6 +41,12 @@ module _ {F : Type 0} where
     pub first_file : e.first_file ≡ 1
     pub blocks : AreBlocks (first_run (opening 1 1)) lines e.notes
     pub here : IsAt (run_over (first_run (opening 1 1)) lines e.notes) e
+
+  -- The lines up to those that are left, whose first one stands last, were taken.
+  pub record StillTakes (script left : List Line) (e : Seen F) : Type 0 where
+    pub taken : List Line
+    pub whole : script ≡ taken ++ reverse left
+    pub has : HasTaken taken e
 
   -- The open questions are those of the plain state, with numbers that were given.
   pub record IsHeard (e : Seen F) : Type 0 where

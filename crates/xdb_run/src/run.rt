@@ -49,7 +49,7 @@ pub fn run_script_named<D: Device, L: Ledger>(
     Ok(history)
 }
 
-/// Takes one line after another.
+/// Takes one line after another. The memory of lines that were taken is given back as the run goes on.
 fn take_all<F: FileRef, L: Ledger>(
     alloc: Global,
     engine: &mut Engine<F, L>,
@@ -59,8 +59,20 @@ fn take_all<F: FileRef, L: Ledger>(
     requires fresh { HasTaken [] engine.old }
     ensures { OnOk result (HasTaken script.items engine.new) }
 {
-    for line in script {
+    let mut left = script;
+    left.reverse();
+    while let Some(line) = left.pop() {
         lines::take(alloc, engine, line)?;
+        shorten(&mut left);
     }
     Ok(())
+}
+
+/// Gives memory back where less than half of it is used.
+fn shorten(lines: &mut Vec<Line>)
+    ensures { lines.new.items ≡ lines.old.items }
+{
+    if lines.len() < lines.capacity() / 2 {
+        lines.shrink_to_fit();
+    }
 }

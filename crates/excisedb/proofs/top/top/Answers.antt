@@ -10,8 +10,7 @@ returns-then-not-are_run-clause-ends g c = usage-ends _ _ _ _ _ (λ e. false≢t
 pub returns-in-Ok-reply_to-clause-ends : goal.returns-in-Ok-reply_to-clause-ends
 returns-in-Ok-reply_to-clause-ends g c =
     let status = c.in-Ok-reply_to.status in
-    let text = c.deref-in-Ok-reply_to.result.now in
+    let text = c.deref.result.now in
     let read = are-read (g.S.Source.left c.args.script.now) (g.S.Source.left c.read_up_to.new.source) _ _ c.in-Ok.field-0 c.new-bytes.ensures.items c.in-Ok.ensures.taken c.in-Ok.ensures.grew.0 c.in-Ok.ensures.grew.1 c.in-Ok.ensures.end in
-    let printed : Replies c.deref.result.now status text = subst (λ t. Replies c.deref.result.now status t) (sym c.deref-in-Ok-reply_to.ensures.value) c.in-Ok-reply_to.ensures.reply in
-    let replies : Replies c.read_up_to.new.out.items status text = subst (λ bs. Replies bs status text) c.deref.ensures.value printed in
+    let replies : Replies c.read_up_to.new.out.items status text = subst (λ t. Replies c.read_up_to.new.out.items status t) (sym c.deref.ensures.value) c.in-Ok-reply_to.ensures.reply in
     reply-ends status _ _ _ _ _ _ c.read_up_to.new.out.items text (c.if-not-are_run.ensures.0 refl) read replies c.send-in-Ok-reply_to.ensures.sent
