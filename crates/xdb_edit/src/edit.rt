@@ -1,6 +1,6 @@
 ghost use Rattle.std.specs.Prelude.{◌≡◌, ◌++◌, [], ◌∷◌, IsTrue, IfOk, OnOk, Ok, All};
 ghost use Rattle.std.specs.List.{list_all, flat_map};
-ghost use Rattle.xdb_edit.specs.Changes.{Changes, changes, joined};
+ghost use Rattle.xdb_edit.specs.Changes.{Changes, changes, joined, no_changes};
 ghost use Rattle.xdb_edit.specs.Records.{IsEdit, records_of, changes_of, fits, rises, front};
 ghost use Rattle.xdb_edit.specs.Spelling.{edit_bytes, record_bytes};
 ghost use Rattle.xdb_edit.specs.Reading.{Gives, edit_at};
@@ -17,61 +17,67 @@ use xdb_meta::TableMeta;
 /// files that are new, and tables that come, each with its level.
 #[derive(Debug, Drop)]
 pub struct Edit {
-    removed: Vec<(u8, u64)>,
-    new_backings: Vec<u64>,
-    added: Vec<(u8, TableMeta)>,
+    /// Apart, since most notes of a history have no edit: so the place for one is a pointer.
+    lists: Box<Lists>,
 }
 
 impl Model for Edit {
-    ghost use Rattle.xdb_edit.specs.Changes.{Changes, changes};
+    ghost use Rattle.xdb_edit.specs.Changes.{Changes};
 
     ghost Value = { Changes };
 
-    ghost view = { λ e. changes e.removed.items e.new_backings.items e.added.items };
+    ghost view = { λ e. e.lists.value };
 }
 
 impl Edit {
-    /// Tables removed and added are named by their level and number.
-    pub fn new(removed: Vec<(u8, u64)>, new_backings: Vec<u64>, added: Vec<(u8, TableMeta)>) -> Self
-        ensures { result ≡ changes removed.items new_backings.items added.items }
+    /// Tables removed and added are named by their level and number. An error means that memory ran out.
+    pub fn new(
+        removed: Vec<(u8, u64)>,
+        new_backings: Vec<u64>,
+        added: Vec<(u8, TableMeta)>,
+    ) -> Result<Self, AllocError>
+        ensures { IfOk result (λ edit. edit ≡ changes removed.items new_backings.items added.items) }
     {
-        Edit {
+        Edit::of(Lists {
             removed,
             new_backings,
             added,
-        }
+        })
+    }
+
+    fn of(lists: Lists) -> Result<Self, AllocError>
+        ensures { IfOk result (λ edit. edit ≡ lists) }
+    {
+        let lists = Box::new(*lists.removed.allocator(), lists)?;
+        Ok(Edit { lists })
     }
 
     pub fn removed(&self) -> &[(u8, u64)]
         ensures { result.now ≡ self.now.removed }
     {
-        &self.removed
+        let lists: &Lists = &self.lists;
+        &lists.removed
     }
 
     pub fn new_backings(&self) -> &[u64]
         ensures { result.now ≡ self.now.new_backings }
     {
-        &self.new_backings
+        let lists: &Lists = &self.lists;
+        &lists.new_backings
     }
 
     pub fn added(&self) -> &[(u8, TableMeta)]
         ensures { result.now ≡ self.now.added }
     {
-        &self.added
+        let lists: &Lists = &self.lists;
+        &lists.added
     }
 
     pub fn copy(&self) -> Result<Self, AllocError>
         ensures { IfOk result (λ edit. edit ≡ self.now) }
     {
-        let alloc = *self.removed.allocator();
-        let removed = Vec::from_slice(alloc, &self.removed)?;
-        let new_backings = Vec::from_slice(alloc, &self.new_backings)?;
-        let added = copy_added(alloc, &self.added)?;
-        Ok(Edit {
-            removed,
-            new_backings,
-            added,
-        })
+        let lists: &Lists = &self.lists;
+        Edit::of(lists.copy()?)
     }
 
     /// The one spelling of the edit.
@@ -84,11 +90,8 @@ impl Edit {
         // What is written is read again.
         ensures again { IfOk result (λ bytes. edit_at bytes.items ≡ Ok self.now) }
     {
-        let mut out = Vec::new(*self.removed.allocator());
-        put_all_removed(&mut out, &self.removed)?;
-        put_all_new_backings(&mut out, &self.new_backings)?;
-        put_all_added(&mut out, &self.added)?;
-        Ok(out)
+        let lists: &Lists = &self.lists;
+        lists.encode()
     }
 
     /// The edit that the bytes spell. Each edit has one spelling, and every other input is refused for
@@ -101,7 +104,62 @@ impl Edit {
         // Which defect is the first.
         ensures exact { Gives (λ e. e) result (edit_at bytes.now) }
     {
-        read_all(alloc, bytes)
+        read_edit(alloc, bytes)
+    }
+}
+
+/// What an edit says.
+#[derive(Debug, Drop)]
+struct Lists {
+    removed: Vec<(u8, u64)>,
+    new_backings: Vec<u64>,
+    added: Vec<(u8, TableMeta)>,
+}
+
+impl Model for Lists {
+    ghost use Rattle.xdb_edit.specs.Changes.{Changes, changes};
+
+    ghost Value = { Changes };
+
+    ghost view = { λ l. changes l.removed.items l.new_backings.items l.added.items };
+}
+
+impl Lists {
+    fn empty(alloc: Global) -> Self
+        ensures { result ≡ no_changes }
+    {
+        Lists {
+            removed: Vec::new(alloc),
+            new_backings: Vec::new(alloc),
+            added: Vec::new(alloc),
+        }
+    }
+
+    fn copy(&self) -> Result<Self, AllocError>
+        ensures { IfOk result (λ lists. lists ≡ self.now) }
+    {
+        let alloc = *self.removed.allocator();
+        let removed = Vec::from_slice(alloc, &self.removed)?;
+        let new_backings = Vec::from_slice(alloc, &self.new_backings)?;
+        let added = copy_added(alloc, &self.added)?;
+        Ok(Lists {
+            removed,
+            new_backings,
+            added,
+        })
+    }
+
+    fn encode(&self) -> Result<Vec<u8>, AllocError>
+        requires order { IsTrue (rises front (records_of self.now)) }
+        requires ranges { IsTrue (list_all fits (records_of self.now)) }
+        ensures spelled { IfOk result (λ bytes. bytes.items ≡ edit_bytes self.now) }
+        ensures again { IfOk result (λ bytes. edit_at bytes.items ≡ Ok self.now) }
+    {
+        let mut out = Vec::new(*self.removed.allocator());
+        put_all_removed(&mut out, &self.removed)?;
+        put_all_new_backings(&mut out, &self.new_backings)?;
+        put_all_added(&mut out, &self.added)?;
+        Ok(out)
     }
 
     /// Puts the record behind those of its kind.
@@ -157,15 +215,22 @@ fn put_all_added(out: &mut Vec<u8>, added: &[(u8, TableMeta)]) -> Result<(), All
     Ok(())
 }
 
-/// Reads record after record; each has to stand behind the last.
-fn read_all(alloc: Global, bytes: &[u8]) -> Result<Edit, EditBad>
+fn read_edit(alloc: Global, bytes: &[u8]) -> Result<Edit, EditBad>
     ensures { Gives (λ e. e) result (edit_at bytes.now) }
+{
+    let lists = read_all(alloc, bytes)?;
+    Ok(Edit::of(lists)?)
+}
+
+/// Reads record after record; each has to stand behind the last.
+fn read_all(alloc: Global, bytes: &[u8]) -> Result<Lists, EditBad>
+    ensures { Gives (λ l. l) result (edit_at bytes.now) }
 {
     let input = Input {
         alloc,
         len: bytes.len(),
     };
-    let mut edit = Edit::new(Vec::new(alloc), Vec::new(alloc), Vec::new(alloc));
+    let mut lists = Lists::empty(alloc);
     let mut last = Rank::FRONT;
     let mut rest = bytes;
     while !rest.is_empty() {
@@ -175,9 +240,9 @@ fn read_all(alloc: Global, bytes: &[u8]) -> Result<Edit, EditBad>
         if !last.is_before(&rank) {
             return Err(EditBad::BadOrder { at });
         }
-        edit.keep(record)?;
+        lists.keep(record)?;
         last = rank;
         rest = after;
     }
-    Ok(edit)
+    Ok(lists)
 }

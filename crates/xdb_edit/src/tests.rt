@@ -19,7 +19,7 @@ fn half_edit(alloc: Global) -> Result<Edit, Fail> {
     removed.push((0, 1))?;
     let mut added = Vec::new(alloc);
     added.push((0, TableMeta::virtual_(2, 1, extent, 0, 43)))?;
-    Ok(Edit::new(removed, Vec::new(alloc), added))
+    Ok(Edit::new(removed, Vec::new(alloc), added)?)
 }
 
 /// The defect of the bytes, where they have one; else they are what the edit read from them is written as.

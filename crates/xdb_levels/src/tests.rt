@@ -33,7 +33,7 @@ fn edit(alloc: Global, removed: &[(u8, u64)], added: &[Row]) -> Result<Edit, Fai
         tables.push((row.0, table(alloc, row)?))?;
     }
     let removed = Vec::from_slice(alloc, removed)?;
-    Ok(Edit::new(removed, Vec::new(alloc), tables))
+    Ok(Edit::new(removed, Vec::new(alloc), tables)?)
 }
 
 /// Whether each level that the edit names is below the number.
@@ -127,7 +127,7 @@ fn halves_in_place_of_a_table(rt: HostRuntime) -> Result<(), Fail> {
     halves.push((1, TableMeta::virtual_(3, 1, right, 0, 43)))?;
     let mut removed = Vec::new(alloc);
     removed.push((1, 1))?;
-    let cut = applied(&whole, &Edit::new(removed, Vec::new(alloc), halves))?;
+    let cut = applied(&whole, &Edit::new(removed, Vec::new(alloc), halves)?)?;
     assert!(rt; are_numbered(whole.tables(1), &[1]));
     assert!(rt; are_numbered(cut.tables(1), &[2, 3]));
     assert!(rt; cut.tables(1).iter().all(|table| table.backing() == 1));

@@ -50,7 +50,7 @@ fn edit(alloc: Global, removed: &[u64], new: &[u64], added: &[(u64, u64)]) -> Re
     for (num, backing) in added {
         tables.push((0, table(alloc, *num, *backing)?))?;
     }
-    Ok(Edit::new(gone, Vec::from_slice(alloc, new)?, tables))
+    Ok(Edit::new(gone, Vec::from_slice(alloc, new)?, tables)?)
 }
 
 /// Whether each level that the edit names is one of a version.

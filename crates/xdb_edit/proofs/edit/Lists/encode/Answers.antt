@@ -7,7 +7,7 @@ use Rattle.xdb_edit.specs.Records.{IsEdit}
 use Rattle.xdb_edit.specs.Reading.{edit_at}
 use Rattle.xdb_edit.proofs.EditLaws.{edit_again}
 use Rattle.xdb_edit.proofs.WritingLaws.{removed_fit, new_backings_fit, written}
-use Rattle.xdb_edit.proofs.edit.Edit.encode.Goals as goal
+use Rattle.xdb_edit.proofs.edit.Lists.encode.Goals as goal
 
 pub put_all_removed-requires : goal.put_all_removed-requires
 put_all_removed-requires c =
