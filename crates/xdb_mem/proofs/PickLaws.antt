@@ -1,6 +1,6 @@
 -- What is picked of entries and clipped of range tombstones, list by list.
-use Rattle.std.proofs.Common.{◌≡◌, ℕ, zero, suc, ◌+◌, ◌<◌, ◌≤◌, ◌^◌, Bool, true, false, cond, ltb, List, [], ◌∷◌, ◌++◌, length, get_or, take, drop, inl, inr, refl, sym, ap, ◌∙◌, subst}
-use Rattle.std.proofs.lemmas.Bool.{cases_Bool, and_parts, and_from, lt-ltb, le-ltb}
+use Rattle.std.proofs.Common.{◌≡◌, ℕ, zero, suc, ◌+◌, ◌<◌, ◌^◌, Bool, true, false, cond, ltb, List, [], ◌∷◌, ◌++◌, length, get_or, take, drop, inl, inr, refl, sym, ap, ◌∙◌, subst}
+use Rattle.std.proofs.lemmas.Bool.{cases_Bool, and_parts, and_from}
 use Rattle.std.proofs.lemmas.List.{append_assoc, append-nil, take-append-drop, take_more}
 use Rattle.std.proofs.lemmas.List.Elements.{filter-append, filter_map-append, filter_more}
 use Rattle.std.specs.List.{filter, filter_map}
@@ -47,13 +47,33 @@ numbered-part xs ys within numbered = λ p q has_p has_q e. numbered p q (within
 abbrev pub is_under : ℕ → Point → Bool
 is_under limit p = ltb p.seq limit
 
+-- one more of the entries, with a number below the limit
+under-more : (es : List Point) (limit i : ℕ) (x : Point) → i < length es → x ≡ get_or es i x → is_under limit x ≡ true → filter (is_under limit) (take (i + 1) es) ≡ filter (is_under limit) (take i es) ++ x ∷ []
+under-more es limit i x inside at small =
+    let q = is_under limit in
+    filter_more q es i x inside ∙ ap (λ y. filter q (take i es) ++ cond (q y) (y ∷ []) []) (sym at) ∙ ap (λ b. filter q (take i es) ++ cond b (x ∷ []) []) small
+
+-- with another number
+over-more : (es : List Point) (limit i : ℕ) (x : Point) → i < length es → x ≡ get_or es i x → is_under limit x ≡ false → filter (is_under limit) (take (i + 1) es) ≡ filter (is_under limit) (take i es)
+over-more es limit i x inside at large =
+    let q = is_under limit in
+    filter_more q es i x inside ∙ ap (λ y. filter q (take i es) ++ cond (q y) (y ∷ []) []) (sym at) ∙ ap (λ b. filter q (take i es) ++ cond b (x ∷ []) []) large ∙ append-nil (filter q (take i es))
+
+-- an entry with a number below the limit is added
+pub add_one : (old es out now : List Point) (limit i : ℕ) (x e : Point) → i < length es → x ≡ get_or es i x → e ≡ x → is_under limit x ≡ true → out ≡ old ++ filter (is_under limit) (take i es) → now ≡ out ++ e ∷ [] → now ≡ old ++ filter (is_under limit) (take (i + 1) es)
+add_one old es out now limit i x e inside at same small before added =
+    let front = filter (is_under limit) (take i es) in
+    added ∙ ap (λ xs. xs ++ e ∷ []) before ∙ append_assoc old front (e ∷ []) ∙ ap (λ y. old ++ (front ++ y ∷ [])) same
+    ∙ ap (λ ys. old ++ ys) (sym (under-more es limit i x inside at small))
+
+-- one with another number is left out
+pub leave_one : (old es out : List Point) (limit i : ℕ) (x : Point) → i < length es → x ≡ get_or es i x → is_under limit x ≡ false → out ≡ old ++ filter (is_under limit) (take i es) → out ≡ old ++ filter (is_under limit) (take (i + 1) es)
+leave_one old es out limit i x inside at large before = before ∙ ap (λ ys. old ++ ys) (sym (over-more es limit i x inside at large))
+
 -- an entry with a number below the limit is put
-pub put_one : (old es out now : List Point) (limit i : ℕ) (x e : Point) → i < length es → x ≡ get_or es i x → e ≡ x → x.seq < limit → AreNumbered (old ++ es) → SameMembers out (old ++ filter (is_under limit) (take i es)) → (AreNumbered (out ++ e ∷ []) → SameMembers now (out ++ e ∷ [])) → SameMembers now (old ++ filter (is_under limit) (take (i + 1) es))
+pub put_one : (old es out now : List Point) (limit i : ℕ) (x e : Point) → i < length es → x ≡ get_or es i x → e ≡ x → is_under limit x ≡ true → AreNumbered (old ++ es) → SameMembers out (old ++ filter (is_under limit) (take i es)) → (AreNumbered (out ++ e ∷ []) → SameMembers now (out ++ e ∷ [])) → SameMembers now (old ++ filter (is_under limit) (take (i + 1) es))
 put_one old es out now limit i x e inside at same small numbered before put =
     let q = is_under limit in
-    let passes : q x ≡ true = lt-ltb x.seq limit small in
-    let more : filter q (take (i + 1) es) ≡ filter q (take i es) ++ x ∷ [] =
-    filter_more q es i x inside ∙ ap (λ y. filter q (take i es) ++ cond (q y) (y ∷ []) []) (sym at) ∙ ap (λ b. filter q (take i es) ++ cond b (x ∷ []) []) passes in
     let has_x : Has es x = subst (Has es) (sym at) (Has-get_or es i x inside) in
     let within : (p : Point) → Has (out ++ e ∷ []) p → Has (old ++ es) p = λ p h. elim (Has-append_cases out (e ∷ []) p h) [
       | inl a ↦ elim (Has-append_cases old (filter q (take i es)) p ((before p).0 a)) [
@@ -65,16 +85,12 @@ put_one old es out now limit i x e inside at same small numbered before put =
     ] in
     let now_is = put (numbered-part (out ++ e ∷ []) (old ++ es) within numbered) in
     let all : SameMembers now ((old ++ filter q (take i es)) ++ e ∷ []) = same_then now (out ++ e ∷ []) ((old ++ filter q (take i es)) ++ e ∷ []) now_is (same_front out (old ++ filter q (take i es)) (e ∷ []) before) in
-    subst (SameMembers now) (append_assoc old (filter q (take i es)) (e ∷ []) ∙ ap (λ y. old ++ (filter q (take i es) ++ y ∷ [])) same ∙ ap (λ ys. old ++ ys) (sym more)) all
+    subst (SameMembers now) (append_assoc old (filter q (take i es)) (e ∷ []) ∙ ap (λ y. old ++ (filter q (take i es) ++ y ∷ [])) same ∙ ap (λ ys. old ++ ys) (sym (under-more es limit i x inside at small))) all
 
 -- one with another number is passed by
-pub pass_one : (old es out : List Point) (limit i : ℕ) (x : Point) → i < length es → x ≡ get_or es i x → limit ≤ x.seq → SameMembers out (old ++ filter (is_under limit) (take i es)) → SameMembers out (old ++ filter (is_under limit) (take (i + 1) es))
+pub pass_one : (old es out : List Point) (limit i : ℕ) (x : Point) → i < length es → x ≡ get_or es i x → is_under limit x ≡ false → SameMembers out (old ++ filter (is_under limit) (take i es)) → SameMembers out (old ++ filter (is_under limit) (take (i + 1) es))
 pass_one old es out limit i x inside at large before =
-    let q = is_under limit in
-    let fails : q x ≡ false = le-ltb x.seq limit large in
-    let more : filter q (take (i + 1) es) ≡ filter q (take i es) =
-    filter_more q es i x inside ∙ ap (λ y. filter q (take i es) ++ cond (q y) (y ∷ []) []) (sym at) ∙ ap (λ b. filter q (take i es) ++ cond b (x ∷ []) []) fails ∙ append-nil (filter q (take i es)) in
-    subst (λ ys. SameMembers out (old ++ ys)) (sym more) before
+    subst (λ ys. SameMembers out (old ++ ys)) (sym (over-more es limit i x inside at large)) before
 
 -- ---- what one memtable gives
 

@@ -101,13 +101,32 @@ pub fn picked(
 fn pick(out: &mut Vec<Entry>, mem: &Mem, range: &KeyRange, below: u64) -> Result<(), AllocError>
     requires order { AreInOrder out.old.items }
     requires numbers { AreNumbered (out.old.items ++ points mem.now) }
-    ensures order { AreInOrder out.new.items }
+    ensures order { OnOk result (AreInOrder out.new.items) }
     ensures members { OnOk result (SameMembers out.new.items (out.old.items ++ picked range.now below mem.now)) }
 {
-    put_below(out, sorted::in_range(mem.entries(), range), below)
+    let found = sorted::in_range(mem.entries(), range);
+    if out.is_empty() {
+        // They stand in order, so none has to be put at its place.
+        add_below(out, found, below)
+    } else {
+        put_below(out, found, below)
+    }
 }
 
-/// Adds a copy of each entry with a number below the limit.
+/// Adds a copy of each entry with a number below the limit, behind those that are there.
+fn add_below(out: &mut Vec<Entry>, entries: &[Entry], below: u64) -> Result<(), AllocError>
+    ensures { OnOk result (out.new.items ≡ out.old.items ++ filter (λ p. nat_lt p.seq below) entries.now) }
+{
+    out.try_reserve(entries.len())?;
+    for entry in entries {
+        if is_under(entry, below) {
+            out.push(entry.copy()?)?;
+        }
+    }
+    Ok(())
+}
+
+/// Adds a copy of each entry with a number below the limit, at its place.
 fn put_below(out: &mut Vec<Entry>, entries: &[Entry], below: u64) -> Result<(), AllocError>
     requires order { AreInOrder out.old.items }
     requires numbers { AreNumbered (out.old.items ++ entries.now) }
@@ -116,11 +135,17 @@ fn put_below(out: &mut Vec<Entry>, entries: &[Entry], below: u64) -> Result<(), 
 {
     out.try_reserve(entries.len())?;
     for entry in entries {
-        if entry.seq() < below {
+        if is_under(entry, below) {
             sorted::put(out, entry.copy()?)?;
         }
     }
     Ok(())
+}
+
+fn is_under(entry: &Entry, below: u64) -> bool
+    ensures { result ≡ nat_lt entry.now.seq below }
+{
+    entry.seq() < below
 }
 
 /// What the range deletes of the memtables with numbers below the limit have in the range.

@@ -22,7 +22,7 @@ loop-mem-preserved c =
     let i = c.loop-mem.mem-index in
     let m = c.mem-item.result in
     record {
-      order = c.pick.ensures.order;
+      order = c.in_ok-pick.ensures.order;
       members = subst (λ os. SameMembers c.pick.new.out.items (picked c.args.range.now c.args.below os)) (sym (joined_more ms i m c.loop-mem-test.true c.mem-item.is))
           (picked_then c.args.range.now c.args.below (joined (take i ms)) m c.loop-mem.out.items c.pick.new.out.items c.loop-mem.invariant.members c.in_ok-pick.ensures.members);
     }

@@ -1,4 +1,4 @@
-use Rattle.std.proofs.Common.{◌∙◌, ◌-◌, ◌+◌, ◌≡◌, length, sym, ap, arith}
+use Rattle.std.proofs.Common.{◌∙◌, ◌-◌, length, sym, ap, arith}
 use Rattle.xdb_mem.specs.InOrder.{comes_before}
 use Rattle.xdb_mem.proofs.InOrderLaws.{last-before}
 use Rattle.xdb_mem.proofs.sorted.is_last.Goals as goal
