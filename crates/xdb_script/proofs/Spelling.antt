@@ -1,11 +1,12 @@
 -- Letters read one byte after the other: what was read so far goes on with what is left.
-use Rattle.std.proofs.Common.{◌≡◌, ◌≢◌, ℕ, ◌<◌, true, false, eqb, ltb, List, [], ◌∷◌, ◌++◌, length, append_assoc, append-nil, refl, sym, ap, ◌∙◌, arith, codes}
-use Rattle.std.specs.List.{flat_map}
+use Rattle.std.proofs.Common.{◌≡◌, ◌≢◌, ℕ, suc, ◌<◌, true, false, eqb, ltb, List, [], ◌∷◌, ◌++◌, length, append_assoc, append-nil, refl, sym, ap, ◌∙◌, arith, codes}
+use Rattle.std.specs.List.{flat_map, list_all}
 use Rattle.std.proofs.lemmas.Bool.{and_parts, and_from, lt-ltb, ltb-true, false_from_ne_true, cond-false, eqb-true, false≢true}
 use Rattle.std.proofs.lemmas.Grind.{flat_map-append}
 use Rattle.std.proofs.lemmas.List.{append_cancel_left}
 use Rattle.std.proofs.lemmas.List.Folds.{list_all-append}
-use Rattle.xdb_plain.specs.Words.{byte_word, string_word}
+use Rattle.xdb_key.specs.Reading.{AreBytes}
+use Rattle.xdb_plain.specs.Words.{is_plain, byte_word, string_word}
 use Rattle.xdb_script.proofs.Words.{same-tells, letters-byte, unspelled-again, is_spelling-again}
 use Rattle.xdb_script.specs.Fields.{same_word, letters, unspelled, is_spelling}
 use Rattle.xdb_script.specs.Rules.{are_bytes}
@@ -29,6 +30,23 @@ is_one_more word bytes rest b after small front h = record {
       h.parts ∙ ap (λ xs. flat_map byte_word bytes ++ xs) front ∙ sym (append_assoc (flat_map byte_word bytes) (byte_word b) after)
       ∙ ap (λ xs. (flat_map byte_word bytes ++ xs) ++ after) (sym (append-nil (byte_word b)))
       ∙ ap (λ xs. xs ++ after) (sym (flat_map-append byte_word bytes (b ∷ [])));
+}
+
+-- bytes that stand for themselves are their own letters
+plain-word : (word : List ℕ) → list_all is_plain word ≡ true → flat_map byte_word word ≡ word
+plain-word [] h = refl
+plain-word (b ∷ bs) h =
+    let both = and_parts (is_plain b) (list_all is_plain bs) h in
+    rw both.0 (ap (λ xs. b ∷ xs) (plain-word bs both.1))
+
+each-small : (bytes : List ℕ) → AreBytes bytes → are_bytes bytes ≡ true
+each-small [] h = refl
+each-small (b ∷ bs) h = and_from (ltb b 256) (are_bytes bs) (lt-ltb b 256 (h 0)) (each-small bs (λ i. h (suc i)))
+
+pub plain_so_far : (word : List ℕ) → AreBytes word → list_all is_plain word ≡ true → IsSoFar word word []
+plain_so_far word small h = record {
+  bytes_are = each-small word small;
+  parts = sym (append-nil (flat_map byte_word word) ∙ plain-word word h);
 }
 
 some-bytes : (word bytes : List ℕ) → word ≢ [] → word ≡ flat_map byte_word bytes → string_word bytes ≡ word

@@ -103,7 +103,8 @@ fn read_del_span(alloc: Global, words: &[&[u8]]) -> Result<Cmd, LineNo>
 fn commit_one(alloc: Global, form: CommitForm, op: Op) -> Result<Cmd, AllocError>
     ensures { IfOk result (λ made. made ≡ cmd.Commit form (op ∷ [])) }
 {
-    let mut ops = Vec::new(alloc);
+    // The history keeps them: no more room than for the one.
+    let mut ops = Vec::with_capacity(alloc, 1)?;
     ops.push(op)?;
     Ok(Cmd::Commit {
         form,

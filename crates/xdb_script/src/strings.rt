@@ -1,5 +1,6 @@
 //! Words that spell bytes: keys, bounds and values.
 ghost use Rattle.std.specs.Prelude.{◌≡◌, ◌≢◌, ◌<◌, ◌≤◌, ◌++◌, ℕ, List, [], true, false, length, codes, MatchOption, IfOk};
+ghost use Rattle.std.specs.List.{list_all};
 ghost use Rattle.xdb_plain.specs.Words.{is_plain, byte_word, hex_digit};
 ghost use Rattle.xdb_script.specs.Answers.{Answers};
 ghost use Rattle.xdb_script.specs.Fields.{is_spelling, unspelled, string_read, key_read, bound_read, value_read};
@@ -54,7 +55,17 @@ fn unspell(alloc: Global, word: &[u8]) -> Result<Option<Vec<u8>>, AllocError>
     if word.is_empty() {
         return Ok(None);
     }
+    if are_plain(word) {
+        return Ok(Some(Vec::from_slice(alloc, word)?));
+    }
     unspell_letters(alloc, word)
+}
+
+/// Whether each byte stands for itself, as in most words.
+fn are_plain(word: &[u8]) -> bool
+    ensures { result ≡ list_all is_plain word.now }
+{
+    word.iter().all(|byte| is_plain(*byte))
 }
 
 /// The same where the word isn't `""`: it has the letters of one byte after the other.
