@@ -1,8 +1,8 @@
 -- Internal order is total. What is found in a list in internal order, and what is put into it.
-use Rattle.std.proofs.Common.{◌≡◌, ℕ, ◌+◌, ◌*◌, ◌<◌, Bool, true, false, not, List, [], ◌∷◌, ◌++◌, length, get_or, take, drop, inl, inr, IsTrue, refl, sym, ap, ◌∙◌, subst, arith}
-use Rattle.std.proofs.lemmas.Bool.{cases_eq, cases_order, and_from, and_left, and_right, false≢true, true≢false}
+use Rattle.std.proofs.Common.{◌≡◌, ℕ, ◌+◌, ◌-◌, ◌*◌, ◌<◌, ◌≤◌, Bool, true, false, not, List, [], ◌∷◌, ◌++◌, length, get_or, take, drop, inl, inr, IsTrue, refl, sym, ap, ◌∙◌, subst, arith}
+use Rattle.std.proofs.lemmas.Bool.{cases_Bool, cases_eq, cases_lt, cases_order, and_from, and_left, and_right, false≢true, true≢false}
 use Rattle.std.proofs.lemmas.Cmp.{on_total, then_total, back_total, nat_cmp_total}
-use Rattle.std.proofs.lemmas.List.{get_or_default, get_or-drop, length-drop, append-nil, take-append-drop}
+use Rattle.std.proofs.lemmas.List.{get_or_default, get_or-take, get_or-drop, length-take, length-drop, append-nil, take-append-drop}
 use Rattle.std.proofs.lemmas.List.Elements.{All-take, filter-append}
 use Rattle.std.proofs.lemmas.List.Sorted.{IsPermutation-insert, IsPermutation-to_front, IsPermutation-trans}
 use Rattle.std.proofs.lemmas.List.Kept.{AllPairs-cons}
@@ -89,6 +89,34 @@ in_range-is r ps rest n m e lower upper =
     let whole : filter t ps ≡ filter t (drop n ps) =
     ap (filter t) (sym (take-append-drop n ps)) ∙ filter-append t (take n ps) (drop n ps) ∙ ap (λ xs. xs ++ filter t (drop n ps)) (filter_none t (take n ps) below) in
     sym middle ∙ ap (filter t) e ∙ sym whole
+
+-- from a place on no key is below the bound
+pub none_behind : (at : List ℕ) (ps : List Point) (n : ℕ) (x : Point) → AreInOrder ps → is_below (get_or ps n x).key at ≡ false → n < length ps → All (λ p. is_below p.key at ≡ false) (drop n ps)
+none_behind at ps n x order first inside = λ k d h.
+    let there : n + k < length ps = omega (arith, length-drop n ps) in
+    let here : is_below (get_or ps n d).key at ≡ false = ap (λ p. is_below p.key at) (get_or_default ps n d x inside) ∙ first in
+    ap (λ p. is_below p.key at) (get_or-drop n ps k d) ∙ elim (cases_Bool (is_below (get_or ps (n + k) d).key at)) [
+      | inl is ↦ absurd (false≢true (sym here ∙ key-partitioned at ps order n (n + k) d (omega arith) there is))
+      | inr isnt ↦ isnt
+    ]
+
+-- nothing stands there
+pub nothing_behind : (P : Point → Type 0) (ps : List Point) (n : ℕ) → length ps ≤ n → All P (drop n ps)
+nothing_behind P ps n past = λ k d h. absurd (omega (arith, length-drop n ps))
+
+-- a place that was found in the front
+pub split_front : (P Q : Point → Type 0) (ps : List Point) (reach n : ℕ) → reach ≤ length ps → n ≤ length (take reach ps) → IsPartitionPoint P Q (take reach ps) n → All Q (drop reach ps) → (n ≤ length ps) × IsPartitionPoint P Q ps n
+split_front P Q ps reach n within small split behind =
+    let long : length (take reach ps) ≡ reach = omega (arith, length-take reach ps) in (
+      omega arith,
+      (
+        λ k d from upto. subst P (get_or-take reach ps k d (omega arith)) (split.0 k d from upto),
+        λ k d from inside. elim (cases_lt k reach) [
+          | inl less ↦ subst Q (get_or-take reach ps k d less) (split.1 k d from (omega arith))
+          | inr more ↦ subst Q (get_or-drop reach ps (k - reach) d ∙ ap (λ i. get_or ps i d) (omega arith)) (behind (k - reach) d (omega (arith, length-drop reach ps)))
+        ],
+      ),
+    )
 
 -- ---- what is put at its place
 

@@ -117,7 +117,12 @@ fn pick(out: &mut Vec<Entry>, mem: &Mem, range: &KeyRange, below: u64) -> Result
 fn add_below(out: &mut Vec<Entry>, entries: &[Entry], below: u64) -> Result<(), AllocError>
     ensures { OnOk result (out.new.items ≡ out.old.items ++ filter (λ p. nat_lt p.seq below) entries.now) }
 {
-    out.try_reserve(entries.len())?;
+    // What the entries say is fetched here, several at a time; while they are copied, each waits for the last.
+    let count = entries
+        .iter()
+        .filter(|entry| is_under(entry, below))
+        .count();
+    out.try_reserve(count)?;
     for entry in entries {
         if is_under(entry, below) {
             out.push(entry.copy()?)?;

@@ -1,6 +1,6 @@
 //! Lists of entries in internal order: by user key, and at one user key the greatest number first, as
 //! in LevelDB's and Pebble's memtables.
-ghost use Rattle.std.specs.Prelude.{◌≡◌, ◌≤◌, ◌<◌, ◌+◌, ◌&&◌, true, false, [], ◌∷◌, ◌++◌, length, vec_len, vec_capacity, slice_index_or, IsTrue, IsOk, OnOk, OnErr};
+ghost use Rattle.std.specs.Prelude.{◌≡◌, ◌≤◌, ◌<◌, ◌+◌, ◌&&◌, true, false, [], ◌∷◌, ◌++◌, length, drop, vec_len, vec_capacity, slice_index_or, IsTrue, IsOk, OnOk, OnErr};
 ghost use Rattle.std.specs.List.{filter, All};
 ghost use Rattle.std.specs.List.Sorted.{IsPartitionPoint};
 ghost use Rattle.xdb_key.specs.Bounds.{holds};
@@ -80,15 +80,51 @@ fn stands_at(entries: &[Entry], at: usize, entry: &Entry) -> bool
     false
 }
 
-/// The entries whose keys lie in the range, by two binary searches.
+/// The entries whose keys lie in the range: a binary search for the first, and one near it for the end.
 pub fn in_range<'a>(entries: &'a [Entry], range: &KeyRange) -> &'a [Entry]
     requires { AreInOrder entries.now }
     ensures { result.now ≡ filter (λ p. holds range.now p.key) entries.now }
 {
     let first = first_from(entries, range.lo());
     let rest = &entries[first..];
-    let end = first_from(rest, range.hi());
+    let end = near_from(rest, range.hi());
     &rest[..end]
+}
+
+/// The same as `first_from`. It looks at no more entries than where the place is at the front.
+fn near_from(entries: &[Entry], at: &Bound) -> usize
+    requires { AreInOrder entries.now }
+    ensures bound { result ≤ length entries.now }
+    ensures split { IsPartitionPoint (λ p. is_below p.key at.now ≡ true) (λ p. is_below p.key at.now ≡ false) entries.now result }
+{
+    let reach = reach(entries, at);
+    first_from(&entries[..reach], at)
+}
+
+/// The least of 16, 32, 64 and so on from which no key is below the bound, or the number of entries.
+fn reach(entries: &[Entry], at: &Bound) -> usize
+    requires { AreInOrder entries.now }
+    ensures bound { result ≤ length entries.now }
+    ensures behind { All (λ p. is_below p.key at.now ≡ false) (drop result entries.now) }
+{
+    let mut reach = 16;
+    while is_below_at(entries, reach, at) {
+        reach = reach.saturating_mul(2);
+    }
+    reach.min(entries.len())
+}
+
+/// Whether there is such a place, and the key there is below the bound.
+fn is_below_at(entries: &[Entry], place: usize, at: &Bound) -> bool
+    requires { AreInOrder entries.now }
+    ensures yes { IsTrue result → place < length entries.now }
+    ensures no { result ≡ false → All (λ p. is_below p.key at.now ≡ false) (drop place entries.now) }
+{
+    if place < entries.len() {
+        let entry = &entries[place];
+        return is_below(entry.key().bytes(), at.bytes());
+    }
+    false
 }
 
 /// The place of the first entry whose key isn't below the bound.
