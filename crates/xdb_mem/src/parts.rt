@@ -117,7 +117,8 @@ fn pick(out: &mut Vec<Entry>, mem: &Mem, range: &KeyRange, below: u64) -> Result
 fn add_below(out: &mut Vec<Entry>, entries: &[Entry], below: u64) -> Result<(), AllocError>
     ensures { OnOk result (out.new.items ≡ out.old.items ++ filter (λ p. nat_lt p.seq below) entries.now) }
 {
-    // What the entries say is fetched here, several at a time; while they are copied, each waits for the last.
+    // Counted first: so what the entries say comes from memory several at a time, and not one by one
+    // with their copies.
     let count = entries
         .iter()
         .filter(|entry| is_under(entry, below))

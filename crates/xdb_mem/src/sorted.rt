@@ -91,7 +91,8 @@ pub fn in_range<'a>(entries: &'a [Entry], range: &KeyRange) -> &'a [Entry]
     &rest[..end]
 }
 
-/// The same as `first_from`. It looks at no more entries than where the place is at the front.
+/// The same as `first_from`, for a place that is likely near the front: what lies far behind it isn't
+/// looked at.
 fn near_from(entries: &[Entry], at: &Bound) -> usize
     requires { AreInOrder entries.now }
     ensures bound { result ≤ length entries.now }
@@ -101,7 +102,8 @@ fn near_from(entries: &[Entry], at: &Bound) -> usize
     first_from(&entries[..reach], at)
 }
 
-/// The least of 16, 32, 64 and so on from which no key is below the bound, or the number of entries.
+/// How many entries have to be searched: the least of 16, 32, 64 and so on from which on no key is below
+/// the bound, or all.
 fn reach(entries: &[Entry], at: &Bound) -> usize
     requires { AreInOrder entries.now }
     ensures bound { result ≤ length entries.now }
