@@ -13,3 +13,11 @@ IsFalling ns = AllPairs (λ m n. n < m) ns
 -- from which on they are on the other
 abbrev pub EndsAt : {X : Type 0} → (X → ℕ) → (X → Type 0) → (X → Type 0) → List X → ℕ → Result ℕ ℕ → Type 0
 EndsAt key before behind xs num r = MatchResult r (λ at. (at < length xs) × HoldsAt (λ x. key x ≡ num) xs at) (λ at. (at ≤ length xs) × IsPartitionPoint before behind xs at)
+
+-- where the keys rise
+abbrev pub EndsRising : {X : Type 0} → (X → ℕ) → List X → ℕ → Result ℕ ℕ → Type 0
+EndsRising key xs num r = EndsAt key (λ x. key x < num) (λ x. num < key x) xs num r
+
+-- where the numbers fall
+abbrev pub EndsFalling : List ℕ → ℕ → Result ℕ ℕ → Type 0
+EndsFalling ns num r = EndsAt (λ n. n) (λ n. num < n) (λ n. n < num) ns num r

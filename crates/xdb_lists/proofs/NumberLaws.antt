@@ -3,25 +3,14 @@ use Rattle.std.proofs.Common.{◌≡◌, ℕ, suc, ◌+◌, ◌<◌, ◌≤◌, 
 use Rattle.std.specs.List.{insert, remove}
 use Rattle.std.specs.List.Sorted.{IsBinarySearchResult, IsSearchInRange, IsNonDecreasingBy}
 use Rattle.std.specs.Result.{is_ok}
-use Rattle.std.specs.declared.cmp.Ordering.TheVariants.{Less, Equal, Greater}
 use Rattle.std.specs.Ordering.{nat_cmp, ordering_index}
 use Rattle.std.proofs.lemmas.Bool.{cases_order, cases_lt, cases_eq, eq-eqb, ne_eqb, eqb-true, or_from, or_cases, or_left, or_right, false≢true}
 use Rattle.std.proofs.lemmas.Bool.Decides.{nat_tests}
-use Rattle.std.proofs.lemmas.Cmp.{ranked}
 use Rattle.std.proofs.lemmas.List.{take-append-drop, drop_more, take_at, drop_all, append-nil, get_or_at, length_push}
 use Rattle.std.proofs.lemmas.List.Edits.{length-remove, get_or-remove_below, get_or-remove_above}
 use Rattle.std.proofs.lemmas.List.Folds.{list_any-append, list_any_at, list_any_none}
-use Rattle.xdb_vset.specs.Numbers.{is_among, IsFalling, EndsAt}
-use Rattle.xdb_vset.proofs.OrderLaws.{all_pairs_insert}
-
-equal_tells : (a b : ℕ) → nat_cmp a b ≡ Equal → a ≡ b
-equal_tells a b h = let r = ranked a b Equal (sym h) in r
-
-less_tells : (a b : ℕ) → nat_cmp a b ≡ Less → a < b
-less_tells a b h = let r = ranked a b Less (sym h) in r
-
-greater_tells : (a b : ℕ) → nat_cmp a b ≡ Greater → b < a
-greater_tells a b h = let r = ranked a b Greater (sym h) in r
+use Rattle.xdb_lists.specs.Numbers.{is_among, IsFalling, EndsAt}
+use Rattle.xdb_lists.proofs.OrderLaws.{all_pairs_insert, equal_tells, less_tells, greater_tells}
 
 index_rises : (num a b : ℕ) → b < a → ordering_index (nat_cmp num a) ≤ ordering_index (nat_cmp num b)
 index_rises num a b less = grind (arith, nat_tests)

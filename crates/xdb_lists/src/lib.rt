@@ -1,0 +1,44 @@
+//! Lists in the order of a number, and lists of numbers, the greatest first: definitions, and their laws, each a
+//! function that does nothing.
+#![tactic(auto)]
+
+ghost use Rattle.std.specs.Prelude.{◌≡◌, ◌<◌, ◌==◌, ◌&&◌, ◌||◌, ◌++◌, not, ℕ, List, [], ◌∷◌, get_or, set, Some, None, Result, Ok, Err, if◌then◌else◌};
+ghost use Rattle.std.specs.List.{insert, remove};
+ghost use Rattle.std.specs.Result.{is_ok};
+ghost use Rattle.xdb_lists.specs.Keyed.{IsRising, at_key};
+ghost use Rattle.xdb_lists.specs.Numbers.{is_among, IsFalling, EndsRising, EndsFalling};
+
+/// A search tells what stands under the number.
+pub fn searches_tell<X>()
+    ensures found { (key : X → ℕ) (num : ℕ) (xs : List X) (at : ℕ) (d : X) → IsRising key xs → EndsRising key xs num (Ok at)
+        → at_key key num xs ≡ Some (get_or xs at d) }
+    ensures missing { (key : X → ℕ) (num : ℕ) (xs : List X) (at : ℕ) → EndsRising key xs num (Err at) → at_key key num xs ≡ None }
+    ensures among { (num : ℕ) (ns : List ℕ) (r : Result ℕ ℕ) → EndsFalling ns num r → is_ok r ≡ is_among num ns }
+{}
+
+/// What stands under each number once an element was put in place of the one that was found, put in where none was,
+/// taken out, or put at the end.
+pub fn one_element_changes<X>()
+    ensures set { (key : X → ℕ) (xs : List X) (at : ℕ) (y : X) → IsRising key xs → EndsRising key xs (key y) (Ok at)
+        → (n : ℕ) → at_key key n (set xs at y) ≡ (if n == key y then Some y else at_key key n xs) }
+    ensures insert { (key : X → ℕ) (xs : List X) (at : ℕ) (y : X) → EndsRising key xs (key y) (Err at)
+        → (n : ℕ) → at_key key n (insert xs at y) ≡ (if n == key y then Some y else at_key key n xs) }
+    ensures remove { (key : X → ℕ) (num : ℕ) (xs : List X) (at : ℕ) (d : X) → IsRising key xs → EndsRising key xs num (Ok at)
+        → (n : ℕ) → at_key key n (remove xs at) ≡ (if n == num then None else at_key key n xs) }
+    ensures pushed { (key : X → ℕ) (xs : List X) (y : X) → at_key key (key y) xs ≡ None
+        → (n : ℕ) → at_key key n (xs ++ y ∷ []) ≡ (if n == key y then Some y else at_key key n xs) }
+{}
+
+/// The order stays where an element is put where a search for its number ends.
+pub fn order_stays<X>()
+    ensures set { (key : X → ℕ) (xs : List X) (at : ℕ) (y : X) → IsRising key xs → EndsRising key xs (key y) (Ok at) → IsRising key (set xs at y) }
+    ensures insert { (key : X → ℕ) (xs : List X) (at : ℕ) (y : X) → IsRising key xs → EndsRising key xs (key y) (Err at) → IsRising key (insert xs at y) }
+    ensures falling { (num : ℕ) (ns : List ℕ) (at : ℕ) → IsFalling ns → EndsFalling ns num (Err at) → IsFalling (insert ns at num) }
+{}
+
+/// Which numbers there are once one was put in or taken out.
+pub fn one_number_changes()
+    ensures insert { (ns : List ℕ) (at num n : ℕ) → is_among n (insert ns at num) ≡ (n == num || is_among n ns) }
+    ensures remove { (num : ℕ) (ns : List ℕ) (at : ℕ) → IsFalling ns → EndsFalling ns num (Ok at)
+        → (n : ℕ) → is_among n (remove ns at) ≡ (not (n == num) && is_among n ns) }
+{}
