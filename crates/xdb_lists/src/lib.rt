@@ -2,10 +2,10 @@
 //! function that does nothing.
 #![tactic(auto)]
 
-ghost use Rattle.std.specs.Prelude.{◌≡◌, ◌<◌, ◌==◌, ◌&&◌, ◌||◌, ◌++◌, not, ℕ, List, [], ◌∷◌, get_or, set, Some, None, Result, Ok, Err, if◌then◌else◌};
-ghost use Rattle.std.specs.List.{insert, remove};
+ghost use Rattle.std.specs.Prelude.{◌≡◌, ◌<◌, ◌==◌, ◌&&◌, ◌||◌, ◌++◌, not, ℕ, Bool, List, [], ◌∷◌, get_or, set, map, Some, None, Result, Ok, Err, IsTrue, if◌then◌else◌};
+ghost use Rattle.std.specs.List.{insert, remove, All};
 ghost use Rattle.std.specs.Result.{is_ok};
-ghost use Rattle.xdb_lists.specs.Keyed.{IsRising, at_key};
+ghost use Rattle.xdb_lists.specs.Keyed.{IsRising, at_key, without, replaced};
 ghost use Rattle.xdb_lists.specs.Numbers.{is_among, IsFalling, EndsRising, EndsFalling};
 
 /// A search tells what stands under the number.
@@ -41,4 +41,19 @@ pub fn one_number_changes()
     ensures insert { (ns : List ℕ) (at num n : ℕ) → is_among n (insert ns at num) ≡ (n == num || is_among n ns) }
     ensures remove { (num : ℕ) (ns : List ℕ) (at : ℕ) → IsFalling ns → EndsFalling ns num (Ok at)
         → (n : ℕ) → is_among n (remove ns at) ≡ (not (n == num) && is_among n ns) }
+{}
+
+/// At the place where a number is found, an element is taken out or put in place as it is by the number.
+pub fn places_are_numbers<X>()
+    ensures without { (key : X → ℕ) (num : ℕ) (xs : List X) (at : ℕ) → IsRising key xs → EndsRising key xs num (Ok at) → remove xs at ≡ without key num xs }
+    ensures replaced { (key : X → ℕ) (r : X) (num : ℕ) (xs : List X) (at : ℕ) → IsRising key xs → EndsRising key xs num (Ok at)
+        → set xs at r ≡ replaced key r num xs }
+{}
+
+/// What stands under a number has it, and has what holds of all; and so it is once one was put in its place.
+pub fn replaced_ones_are_found<X>()
+    ensures number { (key : X → ℕ) (n : ℕ) (q : X) (xs : List X) → at_key key n xs ≡ Some q → key q ≡ n }
+    ensures all { (key : X → ℕ) (test : X → Bool) (n : ℕ) (q : X) (xs : List X) → All (λ x. IsTrue (test x)) xs → at_key key n xs ≡ Some q → IsTrue (test q) }
+    ensures found { (key : X → ℕ) (n : ℕ) (q r : X) (xs : List X) → key r ≡ n → at_key key n xs ≡ Some q → at_key key n (replaced key r n xs) ≡ Some r }
+    ensures rising { (key : X → ℕ) (xs ys : List X) → map key ys ≡ map key xs → IsRising key xs → IsRising key ys }
 {}
