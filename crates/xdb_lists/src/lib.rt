@@ -1,4 +1,4 @@
-//! Lists in the order of a number, and lists of numbers, the greatest first: definitions, and their laws, each a
+//! Lists in the order of a number, and lists of numbers, the least first: definitions, and their laws, each a
 //! function that does nothing.
 #![tactic(auto)]
 
@@ -6,14 +6,14 @@ ghost use Rattle.std.specs.Prelude.{◌≡◌, ◌<◌, ◌==◌, ◌&&◌, ◌|
 ghost use Rattle.std.specs.List.{insert, remove, All};
 ghost use Rattle.std.specs.Result.{is_ok};
 ghost use Rattle.xdb_lists.specs.Keyed.{IsRising, at_key, without, replaced};
-ghost use Rattle.xdb_lists.specs.Numbers.{is_among, IsFalling, EndsRising, EndsFalling};
+ghost use Rattle.xdb_lists.specs.Numbers.{is_among, NumbersRise, EndsRising};
 
 /// A search tells what stands under the number.
 pub fn searches_tell<X>()
     ensures found { (key : X → ℕ) (num : ℕ) (xs : List X) (at : ℕ) (d : X) → IsRising key xs → EndsRising key xs num (Ok at)
         → at_key key num xs ≡ Some (get_or xs at d) }
     ensures missing { (key : X → ℕ) (num : ℕ) (xs : List X) (at : ℕ) → EndsRising key xs num (Err at) → at_key key num xs ≡ None }
-    ensures among { (num : ℕ) (ns : List ℕ) (r : Result ℕ ℕ) → EndsFalling ns num r → is_ok r ≡ is_among num ns }
+    ensures among { (num : ℕ) (ns : List ℕ) (r : Result ℕ ℕ) → EndsRising (λ n. n) ns num r → is_ok r ≡ is_among num ns }
 {}
 
 /// What stands under each number once an element was put in place of the one that was found, put in where none was,
@@ -33,13 +33,12 @@ pub fn one_element_changes<X>()
 pub fn order_stays<X>()
     ensures set { (key : X → ℕ) (xs : List X) (at : ℕ) (y : X) → IsRising key xs → EndsRising key xs (key y) (Ok at) → IsRising key (set xs at y) }
     ensures insert { (key : X → ℕ) (xs : List X) (at : ℕ) (y : X) → IsRising key xs → EndsRising key xs (key y) (Err at) → IsRising key (insert xs at y) }
-    ensures falling { (num : ℕ) (ns : List ℕ) (at : ℕ) → IsFalling ns → EndsFalling ns num (Err at) → IsFalling (insert ns at num) }
 {}
 
 /// Which numbers there are once one was put in or taken out.
 pub fn one_number_changes()
     ensures insert { (ns : List ℕ) (at num n : ℕ) → is_among n (insert ns at num) ≡ (n == num || is_among n ns) }
-    ensures remove { (num : ℕ) (ns : List ℕ) (at : ℕ) → IsFalling ns → EndsFalling ns num (Ok at)
+    ensures remove { (num : ℕ) (ns : List ℕ) (at : ℕ) → NumbersRise ns → EndsRising (λ n. n) ns num (Ok at)
         → (n : ℕ) → is_among n (remove ns at) ≡ (not (n == num) && is_among n ns) }
 {}
 

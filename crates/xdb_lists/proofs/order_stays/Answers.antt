@@ -1,7 +1,6 @@
 -- The law `order_stays`, by its lemmas.
 use Rattle.std.proofs.Common.{refl}
 use Rattle.xdb_lists.proofs.KeyLaws.{rising_set, rising_insert}
-use Rattle.xdb_lists.proofs.NumberLaws.{falling_insert}
 use Rattle.xdb_lists.proofs.order_stays.Goals as goal
 
 pub returns-clause-set : goal.returns-clause-set
@@ -9,6 +8,3 @@ returns-clause-set g c = λ key xs at y rising h. rising_set key xs at y rising 
 
 pub returns-clause-insert : goal.returns-clause-insert
 returns-clause-insert g c = λ key xs at y rising h. rising_insert key (key y) xs at y rising h refl
-
-pub returns-clause-falling : goal.returns-clause-falling
-returns-clause-falling g c = falling_insert
