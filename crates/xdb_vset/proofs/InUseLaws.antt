@@ -8,7 +8,7 @@ use Rattle.xdb_lists.specs.Keyed.{IsRising, at_key}
 use Rattle.xdb_vset.specs.declared.older.InUse.{InUse}
 use Rattle.xdb_vset.specs.Versions.{Numbered, version_in, holds_of}
 use Rattle.xdb_lists.proofs.KeyLaws.{key_found, key_set, key_remove, key_pushed}
-use Rattle.xdb_vset.proofs.BackingLaws.{ap_cond, one_less}
+use Rattle.xdb_vset.proofs.FileLaws.{ap_cond, one_less}
 
 -- ---- what is seen of the versions
 

@@ -1,4 +1,4 @@
-pub mod BackingLaws
+pub mod FileLaws
 pub mod HoldLaws
 pub mod InUseLaws
 pub mod VersionLaws

@@ -1,5 +1,6 @@
 pub mod Counts
 pub mod Backings
+pub mod FileLists
 pub mod Hold
 pub mod Holds
 pub mod Versions
