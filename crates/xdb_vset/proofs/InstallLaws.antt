@@ -11,18 +11,20 @@ use Rattle.std.proofs.lemmas.List.Sums.{sum_by-cons, sum_by_push}
 use Rattle.xdb_meta.specs.Table.{Table}
 use Rattle.xdb_edit.specs.Changes.{Changes}
 use Rattle.xdb_edit.specs.Versions.{LevelLists, table_cmp, put_in, put_all_in, removes, added_to, edited_level, edited_from, edited}
-use Rattle.xdb_vset.specs.declared.backings.Backing.{Backing}
-use Rattle.xdb_vset.specs.Keyed.{IsRising, at_key}
-use Rattle.xdb_vset.specs.Numbers.{is_among, IsFalling}
+use Rattle.xdb_vset.specs.declared.files.Backing.{Backing}
+use Rattle.xdb_lists.specs.Keyed.{IsRising, at_key}
+use Rattle.xdb_lists.specs.Numbers.{is_among}
 use Rattle.xdb_vset.specs.Counts.{named_in, named_by, count}
-use Rattle.xdb_vset.specs.Backings.{count_in, file_in, file_from, FilesAre, DeadAre}
+use Rattle.xdb_vset.specs.Backings.{count_in, file_in, file_from, FilesAre}
+use Rattle.xdb_vset.specs.FileLists.{FileLists, AreFiles}
 use Rattle.xdb_vset.specs.Holds.{is_held}
-use Rattle.xdb_vset.specs.Versions.{Numbered}
+use Rattle.xdb_vset.specs.Versions.{Numbered, version_in}
+use Rattle.xdb_vset.specs.declared.older.InUse.{InUse}
 use Rattle.xdb_vset.specs.Seen.{Seen, IsSet, named, version_of}
-use Rattle.xdb_vset.proofs.NumberLaws.{eqb_turned}
-use Rattle.xdb_vset.proofs.KeyLaws.{key_found, key_pushed}
+use Rattle.xdb_lists.proofs.NumberLaws.{eqb_turned}
+use Rattle.xdb_lists.proofs.KeyLaws.{key_found, key_pushed}
 use Rattle.xdb_vset.proofs.HoldLaws.{held_from}
-use Rattle.xdb_vset.proofs.SetLaws.{named_split, older_none, referenced_only}
+use Rattle.xdb_vset.proofs.SetLaws.{named_split, older_none, referenced_only, with_lists}
 
 -- ---- what the tables of a version after an edit lie in
 
@@ -175,7 +177,7 @@ module _ {F : Type 0} (s : Seen F) (is : IsSet s) (e : Changes) (files : List (�
   pub raise_named : (b : ℕ) → 0 < named_by b levels → IsSome (file_from files b (file_in b s.backings))
   raise_named b some = there b (lies b some)
 
-  module _ (bs : List (Backing F)) (dead : List ℕ) (counts : (b : ℕ) → count_in b bs ≡ count_in b s.backings + named_by b levels) where
+  module _ (bs : List (Backing F)) (counts : (b : ℕ) → count_in b bs ≡ count_in b s.backings + named_by b levels) where
     named_now : (b : ℕ) → 0 < count_in b bs → (0 < count_in b s.backings) ⊎ (is_among b e.new_backings ≡ true)
     named_now b some = elim (cases_eq (count_in b s.backings) 0) [
       | inl z ↦ let sum = counts b in lies b (omega arith)
@@ -184,12 +186,6 @@ module _ {F : Type 0} (s : Seen F) (is : IsSet s) (e : Changes) (files : List (�
 
     pub some_now : (b : ℕ) → 0 < count_in b bs → is_some (file_from files b (file_in b s.backings)) ≡ true
     some_now b some = there b (named_now b some)
-
-    pub known_now : (known : List ℕ) → ((n : ℕ) → is_among n known ≡ (is_among n e.new_backings || is_among n s.known)) → (b : ℕ) → 0 < count_in b bs → is_among b known ≡ true
-    known_now known more b some = more b ∙ elim (named_now b some) [
-      | inl was ↦ or_right (is_among b e.new_backings) (is_among b s.known) (is.named_known b was)
-      | inr new ↦ or_left (is_among b e.new_backings) (is_among b s.known) new
-    ]
 
     pub files_now : ((b : ℕ) → file_in b bs ≡ cond (is_among b e.new_backings && eqb (count_in b bs) 0) None (file_from files b (file_in b s.backings))) → FilesAre (λ b. file_from files b (file_in b s.backings)) bs
     files_now file = λ b. file b ∙ elim (cases_Bool (is_among b e.new_backings)) [
@@ -209,29 +205,6 @@ module _ {F : Type 0} (s : Seen F) (is : IsSet s) (e : Changes) (files : List (�
         not_some : {A : Type 0} (o : Option A) → is_some o ≡ false → o ≡ None
         not_some (Some x) h = absurd (false≢true (sym h))
         not_some None h = refl
-
-    pub dead_now : (known : List ℕ) → ((n : ℕ) → is_among n known ≡ (is_among n e.new_backings || is_among n s.known))
-        → ((b : ℕ) → is_among b dead ≡ cond (is_among b e.new_backings && is_some (file_from files b (file_in b s.backings))) (eqb (count_in b bs) 0 && not (is_among b s.taken)) (is_among b s.dead))
-        → DeadAre (λ b. is_among b known) s.taken bs dead
-    dead_now known more died = λ b. died b ∙ elim (cases_Bool (is_among b e.new_backings)) [
-      | inl new ↦
-          ap₂ (λ t f. cond (t && f) (eqb (count_in b bs) 0 && not (is_among b s.taken)) (is_among b s.dead)) new (there b (inr new))
-          ∙ sym (ap (λ k. k && (eqb (count_in b bs) 0 && not (is_among b s.taken))) (more b ∙ or_left (is_among b e.new_backings) (is_among b s.known) new))
-      | inr old ↦
-          ap (λ t. cond (t && is_some (file_from files b (file_in b s.backings))) (eqb (count_in b bs) 0 && not (is_among b s.taken)) (is_among b s.dead)) old
-          ∙ is.dead b
-          ∙ ap (λ z. is_among b s.known && (z && not (is_among b s.taken))) (alike b old)
-          ∙ sym (ap (λ k. k && (eqb (count_in b bs) 0 && not (is_among b s.taken))) (more b ∙ ap (λ t. t || is_among b s.known) old))
-    ]
-      where
-        alike : (b : ℕ) → is_among b e.new_backings ≡ false → eqb (count_in b s.backings) 0 ≡ eqb (count_in b bs) 0
-        alike b old = elim (cases_eq (count_in b bs) 0) [
-          | inl z ↦ let sum = counts b in eq-eqb (count_in b s.backings) 0 (omega arith) ∙ sym (eq-eqb (count_in b bs) 0 z)
-          | inr nz ↦ elim (named_now b (omega arith)) [
-            | inl some ↦ ne_eqb (count_in b s.backings) 0 (omega arith) ∙ sym (ne_eqb (count_in b bs) 0 nz)
-            | inr new ↦ absurd (false≢true (sym old ∙ new))
-          ]
-        ]
 
 -- ---- the new version takes the place of the current one
 
@@ -293,11 +266,9 @@ module _ {F : Type 0} (s : Seen F) (is : IsSet s) (next : Numbered) (later : nex
       let all = ap (sum_by (λ (w : Numbered). named_by b w.levels)) (kept.unheld h) in
       omega arith
 
-  pub set_installed : (bs : List (Backing F)) (known dead : List ℕ) (spare : ℕ) (files : ℕ → Option F) → IsRising (λ b. b.num) bs → IsFalling known → IsFalling dead
-      → ((b : ℕ) → count_in b bs ≡ count b (map (λ w. w.levels) (older ++ next ∷ []))) → FilesAre files bs → ((b : ℕ) → 0 < count_in b bs → is_some (files b) ≡ true)
-      → ((b : ℕ) → 0 < count_in b bs → is_among b known ≡ true) → DeadAre (λ b. is_among b known) s.taken bs dead
-      → IsSet (record s { current = next; older = older; backings = bs; known = known; dead = dead; spare = spare })
-  set_installed bs known dead spare files rises falls falling counts are some is_known dead_are = record {
+  pub set_installed : (f : FileLists F) (files : ℕ → Option F) → AreFiles f.named f.known f.dead f.taken → ((b : ℕ) → count_in b f.named ≡ count b (map (λ w. w.levels) (older ++ next ∷ [])))
+      → FilesAre files f.named → ((b : ℕ) → 0 < count_in b f.named → is_some (files b) ≡ true) → IsSet (with_lists (record s { current = next; older = older }) f)
+  set_installed f files lists counts are some = record {
     older_rise = rising_now;
     older_before = λ v there'. elim (cases_eq v s.current.num) [
       | inl e ↦ omega arith
@@ -317,20 +288,15 @@ module _ {F : Type 0} (s : Seen F) (is : IsSet s) (next : Numbered) (later : nex
     slots_rise = is.slots_rise;
     slots_before = is.slots_before;
     counts = counts;
-    files = λ b. elim (cases_eq (count_in b bs) 0) [
+    files = λ b. elim (cases_eq (count_in b f.named) 0) [
       | inl z ↦
-          let t = eq-eqb (count_in b bs) 0 z in
-          ap is_some (are b ∙ cond-true (eqb (count_in b bs) 0) None (files b) t) ∙ sym (ap not t)
+          let t = eq-eqb (count_in b f.named) 0 z in
+          ap is_some (are b ∙ cond-true (eqb (count_in b f.named) 0) None (files b) t) ∙ sym (ap not t)
       | inr nz ↦
-          let t = ne_eqb (count_in b bs) 0 nz in
-          ap is_some (are b ∙ cond-false (eqb (count_in b bs) 0) None (files b) t) ∙ some b (omega arith) ∙ sym (ap not t)
+          let t = ne_eqb (count_in b f.named) 0 nz in
+          ap is_some (are b ∙ cond-false (eqb (count_in b f.named) 0) None (files b) t) ∙ some b (omega arith) ∙ sym (ap not t)
     ];
-    backings_rise = rises;
-    named_known = is_known;
-    dead = dead_are;
-    known_fall = falls;
-    dead_fall = falling;
-    taken_fall = is.taken_fall;
+    lists = lists;
   }
 
   -- what is referenced afterwards
@@ -361,58 +327,77 @@ module _ {F : Type 0} (s : Seen F) (is : IsSet s) (next : Numbered) (later : nex
 
 -- ---- both together
 
--- what the files, the known numbers and the dead ones are once the new version is counted
-pub record Added {F : Type 0} (s : Seen F) (e : Changes) (files : List (ℕ × F)) (levels : LevelLists) (bs : List (Backing F)) (known dead : List ℕ) : Type 0 where
+-- what an install changes, before the version that goes is let go of: the files of the new version are counted beside
+-- those of the others, and each new file that none of its tables lies in is gone
+pub record Added {F : Type 0} (s : Seen F) (e : Changes) (files : List (ℕ × F)) (levels : LevelLists) (f : FileLists F) : Type 0 where
   pub after : levels ≡ edited s.current.levels e
   pub backed : list_all (λ a. not (eqb (named s a.1.backing) 0) || is_among a.1.backing e.new_backings) e.added ≡ true
   pub names : map (λ f. f.0) files ≡ e.new_backings
-  pub rising : IsRising (λ b. b.num) bs
-  pub falls : IsFalling known
-  pub falling : IsFalling dead
-  pub counts : (b : ℕ) → count_in b bs ≡ count_in b s.backings + named_by b levels
-  pub file : (b : ℕ) → file_in b bs ≡ cond (is_among b e.new_backings && eqb (count_in b bs) 0) None (file_from files b (file_in b s.backings))
-  pub more : (n : ℕ) → is_among n known ≡ (is_among n e.new_backings || is_among n s.known)
-  pub died : (b : ℕ) → is_among b dead ≡ cond (is_among b e.new_backings && is_some (file_from files b (file_in b s.backings))) (eqb (count_in b bs) 0 && not (is_among b s.taken)) (is_among b s.dead)
+  pub lists : AreFiles f.named f.known f.dead f.taken
+  pub counts : (b : ℕ) → count_in b f.named ≡ count_in b s.backings + named_by b levels
+  pub file : (b : ℕ) → file_in b f.named ≡ cond (is_among b e.new_backings && eqb (count_in b f.named) 0) None (file_from files b (file_in b s.backings))
 
-module _ {F : Type 0} (s : Seen F) (is : IsSet s) (e : Changes) (files : List (ℕ × F)) (next : Numbered) (bs : List (Backing F)) (known dead : List ℕ) (a : Added s e files next.levels bs known dead) (later : next.num ≡ s.current.num + 1) (older : List Numbered) where
-  pub added_files : FilesAre (λ b. file_from files b (file_in b s.backings)) bs
-  added_files = files_now s is e files next.levels a.after a.backed a.names bs dead a.counts a.file
-
-  pub added_dead : DeadAre (λ b. is_among b known) s.taken bs dead
-  added_dead = dead_now s is e files next.levels a.after a.backed a.names bs dead a.counts known a.more a.died
-
-  pub added_known : (b : ℕ) → 0 < count_in b bs → is_among b known ≡ true
-  added_known = known_now s is e files next.levels a.after a.backed a.names bs dead a.counts known a.more
+module _ {F : Type 0} (s : Seen F) (is : IsSet s) (e : Changes) (files : List (ℕ × F)) (next : Numbered) (f : FileLists F) (a : Added s e files next.levels f) (later : next.num ≡ s.current.num + 1) (older : List Numbered) where
+  pub added_files : FilesAre (λ b. file_from files b (file_in b s.backings)) f.named
+  added_files = files_now s is e files next.levels a.after a.backed a.names f.named a.counts a.file
 
   -- the version before stays
   pub kept_pushed : is_held s.current.num s.slots ≡ true → older ≡ s.older ++ s.current ∷ [] → Kept s older
   kept_pushed held same = record { held = λ h. same; unheld = λ h. absurd (false≢true (sym h ∙ held)) }
 
-  pub set_pushed : (spare : ℕ) → is_held s.current.num s.slots ≡ true → older ≡ s.older ++ s.current ∷ []
-      → IsSet (record s { current = next; older = older; backings = bs; known = known; dead = dead; spare = spare })
-  set_pushed spare held same =
+  pub set_pushed : is_held s.current.num s.slots ≡ true → older ≡ s.older ++ s.current ∷ [] → IsSet (with_lists (record s { current = next; older = older }) f)
+  set_pushed held same =
       let kept = kept_pushed held same in
-      set_installed s is next later older kept bs known dead spare (λ b. file_from files b (file_in b s.backings)) a.rising a.falls a.falling
+      set_installed s is next later older kept f (λ b. file_from files b (file_in b s.backings)) a.lists
       (λ b. let sum = a.counts b in let was = is.counts b in let all = named_kept s is next later older kept b held in omega arith)
-      added_files (some_now s is e files next.levels a.after a.backed a.names bs dead a.counts) added_known added_dead
+      added_files (some_now s is e files next.levels a.after a.backed a.names f.named a.counts)
 
   -- the version before goes
   pub kept_gone : is_held s.current.num s.slots ≡ false → older ≡ s.older → Kept s older
   kept_gone unheld same = record { held = λ h. absurd (false≢true (sym unheld ∙ h)); unheld = λ h. same }
 
-  pub gone_few : (b : ℕ) → named_by b s.current.levels ≤ count_in b bs
+  pub gone_few : (b : ℕ) → named_by b s.current.levels ≤ count_in b f.named
   gone_few b =
       let sum = a.counts b in
       let was = is.counts b in
       let split = named_split s.older s.current b in
       omega arith
 
-  pub set_replaced : (left : List (Backing F)) (dying : List ℕ) (spare : ℕ) → is_held s.current.num s.slots ≡ false → older ≡ s.older → IsRising (λ b. b.num) left → IsFalling dying
-      → ((b : ℕ) → count_in b left + named_by b s.current.levels ≡ count_in b bs) → FilesAre (λ b. file_from files b (file_in b s.backings)) left → DeadAre (λ b. is_among b known) s.taken left dying
-      → IsSet (record s { current = next; older = older; backings = left; known = known; dead = dying; spare = spare })
-  set_replaced left dying spare unheld same rises falls counts are dead_are =
+  pub set_replaced : (left : FileLists F) → is_held s.current.num s.slots ≡ false → older ≡ s.older → AreFiles left.named left.known left.dead left.taken
+      → ((b : ℕ) → count_in b left.named + named_by b s.current.levels ≡ count_in b f.named) → FilesAre (λ b. file_from files b (file_in b s.backings)) left.named
+      → IsSet (with_lists (record s { current = next; older = older }) left)
+  set_replaced left unheld same lists counts are =
       let kept = kept_gone unheld same in
-      set_installed s is next later older kept left known dying spare (λ b. file_from files b (file_in b s.backings)) rises a.falls falls
+      set_installed s is next later older kept left (λ b. file_from files b (file_in b s.backings)) lists
       (λ b. let less = counts b in let sum = a.counts b in let was = is.counts b in let all = named_gone s is next later older kept b unheld in omega arith)
-      are (λ b some. let less = counts b in some_now s is e files next.levels a.after a.backed a.names bs dead a.counts b (omega arith))
-      (λ b some. let less = counts b in added_known b (omega arith)) dead_are
+      are (λ b some. let less = counts b in some_now s is e files next.levels a.after a.backed a.names f.named a.counts b (omega arith))
+
+-- what an install adds, by what its steps say
+pub added_from : {F : Type 0} (s now : Seen F) (e : Changes) (files : List (ℕ × F)) (next cur : InUse) (old f : FileLists F) (nums : List ℕ) → s ≡ now
+    → version_in next ≡ record { num = now.current.num + 1; levels = edited now.current.levels e } → cur ≡ next
+    → list_all (λ a. not (eqb (named now a.1.backing) 0) || is_among a.1.backing e.new_backings) e.added ≡ true
+    → map (λ f. f.0) files ≡ e.new_backings → nums ≡ e.new_backings → old.named ≡ s.backings
+    → ((b : ℕ) → count_in b f.named ≡ count_in b old.named + named_by b next.levels)
+    → ((b : ℕ) → file_in b f.named ≡ cond (is_among b nums && eqb (count_in b f.named) 0) None (file_from files b (file_in b old.named)))
+    → AreFiles f.named f.known f.dead f.taken → Added s e files cur.levels f
+added_from {F} s now e files next cur old f nums same version step backed names new moved counts file lists = record {
+  after = ap (λ (w : InUse). w.levels) step ∙ ap (λ (v : Numbered). v.levels) version ∙ ap (λ (s : Seen F). edited s.current.levels e) (sym same);
+  backed = ap (λ (s : Seen F). list_all (λ (a : ℕ × Table). not (eqb (named s a.1.backing) 0) || is_among a.1.backing e.new_backings) e.added) same ∙ backed;
+  names = names;
+  lists = lists;
+  counts = λ b. counts b ∙ ap₂ (λ (xs : List (Backing F)) (l : LevelLists). count_in b xs + named_by b l) moved (sym (ap (λ (w : InUse). w.levels) step));
+  file = λ b. file b ∙ ap₂ (λ (ns : List ℕ) (xs : List (Backing F)). cond {A = Option F} (is_among b ns && eqb (count_in b f.named) 0) None (file_from files b (file_in b xs))) new moved;
+}
+
+-- the files that the tables of the new version lie in are there
+pub files_there : {F : Type 0} (s now : Seen F) (e : Changes) (files : List (ℕ × F)) (next : InUse) (old : FileLists F) → IsSet s → s ≡ now
+    → version_in next ≡ record { num = now.current.num + 1; levels = edited now.current.levels e }
+    → list_all (λ a. not (eqb (named now a.1.backing) 0) || is_among a.1.backing e.new_backings) e.added ≡ true
+    → map (λ f. f.0) files ≡ e.new_backings → old.named ≡ s.backings → (b : ℕ) → 0 < named_by b next.levels → IsSome (file_from files b (file_in b old.named))
+files_there {F} s now e files next old is same version backed names moved b some =
+    let after = ap (λ (v : Numbered). v.levels) version ∙ ap (λ (s : Seen F). edited s.current.levels e) (sym same) in
+    let backed' = ap (λ (s : Seen F). list_all (λ (a : ℕ × Table). not (eqb (named s a.1.backing) 0) || is_among a.1.backing e.new_backings) e.added) same ∙ backed in
+    subst (λ (xs : List (Backing F)). IsSome (file_from files b (file_in b xs))) (sym moved) (raise_named s is e files next.levels after backed' names b some)
+
+pub later_num : {F : Type 0} (s now : Seen F) (e : Changes) (next cur : InUse) → s ≡ now → version_in next ≡ record { num = now.current.num + 1; levels = edited now.current.levels e } → cur ≡ next → cur.num ≡ s.current.num + 1
+later_num {F} s now e next cur same version step = ap (λ (w : InUse). w.num) step ∙ ap (λ (v : Numbered). v.num) version ∙ ap (λ (s : Seen F). s.current.num + 1) (sym same)

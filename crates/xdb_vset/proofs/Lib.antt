@@ -1,7 +1,4 @@
-pub mod OrderLaws
-pub mod NumberLaws
-pub mod KeyLaws
-pub mod BackingLaws
+pub mod FileLaws
 pub mod HoldLaws
 pub mod InUseLaws
 pub mod VersionLaws

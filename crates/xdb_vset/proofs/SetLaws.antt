@@ -2,24 +2,24 @@
 use Rattle.std.proofs.Common.{◌≡◌, ℕ, suc, ap₂, ◌+◌, ◌<◌, ◌≤◌, Bool, true, false, not, ◌&&◌, ◌||◌, cond, eqb, List, [], ◌∷◌, ◌++◌, map, length, get_or, Err, Option, Some, None, refl, sym, ap, subst, ◌∙◌, inl, inr, ◌⊎◌, arith}
 use Rattle.std.specs.Option.{option_map, is_some, IsSome}
 use Rattle.std.specs.List.{sum_by, remove}
-use Rattle.std.proofs.lemmas.Bool.{cases_eq, eq-eqb, ne_eqb, cond-true, cond-false, or_left, or_right, or_from, and_right, false≢true}
+use Rattle.std.proofs.lemmas.Bool.{cases_eq, eq-eqb, ne_eqb, cond-true, cond-false, or_left, or_right, or_from, false≢true}
 use Rattle.std.proofs.lemmas.List.Quantifiers.{all_pairs_remove}
-use Rattle.xdb_vset.specs.declared.backings.Backing.{Backing}
+use Rattle.xdb_vset.specs.declared.files.Backing.{Backing}
 use Rattle.std.proofs.lemmas.List.Sums.{sum_by-cons, sum_by-append, sum_by-remove}
 use Rattle.xdb_vset.specs.declared.holds.Slot.{Slot}
-use Rattle.xdb_vset.specs.Keyed.{IsRising, at_key}
+use Rattle.xdb_lists.specs.Keyed.{IsRising, at_key}
 use Rattle.xdb_vset.specs.Holds.{slot_of, is_held}
-use Rattle.xdb_vset.specs.Numbers.{is_among, IsFalling, EndsAt}
+use Rattle.xdb_lists.specs.Numbers.{is_among, EndsAt}
 use Rattle.xdb_vset.specs.Counts.{named_by, count}
-use Rattle.xdb_vset.specs.Backings.{count_in, file_in, FilesAre, DeadAre}
+use Rattle.xdb_vset.specs.Backings.{count_in, file_in, FilesAre}
+use Rattle.xdb_vset.specs.FileLists.{FileLists, AreFiles}
 use Rattle.xdb_vset.specs.Seen.{Seen, IsSet, is_dead, named, version_of}
 use Rattle.xdb_vset.specs.declared.older.InUse.{InUse}
 use Rattle.xdb_vset.specs.Versions.{Numbered, version_in}
-use Rattle.xdb_vset.proofs.KeyLaws.{key_found, key_missing, key_remove}
-use Rattle.xdb_vset.proofs.BackingLaws.{count_found}
+use Rattle.xdb_lists.proofs.KeyLaws.{key_found, key_missing, key_remove}
+use Rattle.xdb_vset.proofs.FileLaws.{count_found}
 use Rattle.xdb_vset.proofs.InUseLaws.{seen_at, seen_some}
 use Rattle.std.proofs.lemmas.List.{get_or_default}
-use Rattle.xdb_vset.proofs.NumberLaws.{left_over}
 use Rattle.xdb_vset.proofs.HoldLaws.{held_from, held_tells, slot_pushed, rising_pushed}
 
 -- a ticket becomes a hold of a version that is there
@@ -48,12 +48,7 @@ set_held s slots t v is ticket there rising changed =
       ];
       counts = is.counts;
       files = is.files;
-      backings_rise = is.backings_rise;
-      named_known = is.named_known;
-      dead = is.dead;
-      known_fall = is.known_fall;
-      dead_fall = is.dead_fall;
-      taken_fall = is.taken_fall;
+      lists = is.lists;
     }
 
 -- the number of the next ticket is new
@@ -88,46 +83,39 @@ set_ticket s slots next is e later =
       ];
       counts = is.counts;
       files = is.files;
-      backings_rise = is.backings_rise;
-      named_known = is.named_known;
-      dead = is.dead;
-      known_fall = is.known_fall;
-      dead_fall = is.dead_fall;
-      taken_fall = is.taken_fall;
+      lists = is.lists;
     }
 
 -- ---- the dead
 
 pub dead_is : {F : Type 0} (s : Seen F) (n : ℕ) → IsSet s → is_among n s.dead ≡ is_dead s n
-dead_is s n is = is.dead n ∙ ap (λ (c : ℕ). is_among n s.known && (eqb c 0 && not (is_among n s.taken))) (is.counts n)
+dead_is s n is =
+    is.lists.dead_wait n
+    ∙ ap (λ t. is_among n s.known && (not t && not (is_among n s.taken))) (is.files n)
+    ∙ ap (λ t. is_among n s.known && (t && not (is_among n s.taken))) (twice (eqb (count_in n s.backings) 0))
+    ∙ ap (λ (c : ℕ). is_among n s.known && (eqb c 0 && not (is_among n s.taken))) (is.counts n)
+  where
+    twice : (t : Bool) → not (not t) ≡ t
+    twice true = refl
+    twice false = refl
 
--- the least dead number is taken
-pub set_taken : {F : Type 0} (s : Seen F) (dead taken : List ℕ) (spare num : ℕ) → IsSet s → s.dead ≡ dead ++ num ∷ [] → IsFalling dead → IsFalling taken → ((n : ℕ) → is_among n taken ≡ (eqb n num || is_among n s.taken)) → IsSet (record s { dead = dead; taken = taken; spare = spare })
-set_taken s dead taken spare num is e falling falls more = record {
+-- the same with these lists
+abbrev pub with_lists : {F : Type 0} → Seen F → FileLists F → Seen F
+with_lists s f = record s { backings = f.named; known = f.known; dead = f.dead; taken = f.taken; spare = f.spare }
+
+-- other numbers are known, dead or taken
+pub set_lists : {F : Type 0} (s : Seen F) (f : FileLists F) → IsSet s → f.named ≡ s.backings → AreFiles f.named f.known f.dead f.taken → IsSet (with_lists s f)
+set_lists s f is same are = record {
   older_rise = is.older_rise;
   older_before = is.older_before;
   older_held = is.older_held;
   holds_stand = is.holds_stand;
   slots_rise = is.slots_rise;
   slots_before = is.slots_before;
-  counts = is.counts;
-  files = is.files;
-  backings_rise = is.backings_rise;
-  named_known = is.named_known;
-  dead = λ n.
-      left_over num dead s.dead n e is.dead_fall ∙ ap (λ t. not (eqb n num) && t) (is.dead n)
-      ∙ moved (eqb n num) (is_among n s.known) (eqb (count_in n s.backings) 0) (is_among n s.taken)
-      ∙ ap (λ t. is_among n s.known && (eqb (count_in n s.backings) 0 && not t)) (sym (more n));
-  known_fall = is.known_fall;
-  dead_fall = falling;
-  taken_fall = falls;
+  counts = λ b. ap (count_in b) same ∙ is.counts b;
+  files = λ b. ap (λ bs. is_some (file_in b bs)) same ∙ is.files b ∙ ap (λ bs. not (eqb (count_in b bs) 0)) (sym same);
+  lists = are;
 }
-  where
-    moved : (a k z t : Bool) → (not a && (k && (z && not t))) ≡ (k && (z && not (a || t)))
-    moved true true true t = refl
-    moved true true false t = refl
-    moved true false z t = refl
-    moved false k z t = refl
 
 -- ---- the version that is held
 
@@ -194,12 +182,7 @@ module _ {F : Type 0} (s : Seen F) (slots : List Slot) (id v : ℕ) (is : IsSet 
     slots_before = slots_low;
     counts = is.counts;
     files = is.files;
-    backings_rise = is.backings_rise;
-    named_known = is.named_known;
-    dead = is.dead;
-    known_fall = is.known_fall;
-    dead_fall = is.dead_fall;
-    taken_fall = is.taken_fall;
+    lists = is.lists;
   }
 
 -- ---- the pairs that name a file
@@ -293,10 +276,9 @@ module _ {F : Type 0} (s : Seen F) (slots : List Slot) (id v : ℕ) (is : IsSet 
   not_v : (n w : ℕ) → slot_of n slots ≡ Some (Some w) → w ≡ v → ⊥
   not_v n w h e = false≢true (sym unheld ∙ held_from slots n v (h ∙ ap (λ k. Some (Some k)) e))
 
-  pub set_gone : (backings : List (Backing F)) (dead : List ℕ) (spare : ℕ) → IsRising (λ b. b.num) backings → IsFalling dead
-      → ((b : ℕ) → count_in b backings + named_by b x.levels ≡ count_in b s.backings) → FilesAre (λ b. file_in b s.backings) backings → DeadAre (λ b. is_among b s.known) s.taken backings dead
-      → IsSet (record s { older = older; slots = slots; backings = backings; dead = dead; spare = spare })
-  set_gone backings dead spare rises falls counts files dead_are = record {
+  pub set_gone : (f : FileLists F) → AreFiles f.named f.known f.dead f.taken → ((b : ℕ) → count_in b f.named + named_by b x.levels ≡ count_in b s.backings) → FilesAre (λ b. file_in b s.backings) f.named
+      → IsSet (with_lists (record s { older = older; slots = slots }) f)
+  set_gone f are counts files = record {
     older_rise = subst (IsRising (λ w. w.num)) (sym gone) (all_pairs_remove (λ a b. a.num < b.num) s.older at l is.older_rise);
     older_before = λ w some. is.older_before w (was_older w some).1;
     older_held = λ w some. let p = was_older w some in still_held s slots id v is open' rising changed w p.0 (is.older_held w p.1);
@@ -310,24 +292,19 @@ module _ {F : Type 0} (s : Seen F) (slots : List Slot) (id v : ℕ) (is : IsSet 
         let e = named_without s.older s.current x at b l read in
         let old = is.counts b in
         let new = counts b in
-        let less : count_in b backings ≡ count b (map (λ w. w.levels) (remove s.older at ++ s.current ∷ [])) = omega arith in
+        let less : count_in b f.named ≡ count b (map (λ w. w.levels) (remove s.older at ++ s.current ∷ [])) = omega arith in
         less ∙ ap (λ (o : List Numbered). count b (map (λ w. w.levels) (o ++ s.current ∷ []))) (sym gone);
-    files = λ b. elim (cases_eq (count_in b backings) 0) [
+    files = λ b. elim (cases_eq (count_in b f.named) 0) [
       | inl z ↦
-          let t = eq-eqb (count_in b backings) 0 z in
-          ap is_some (files b ∙ cond-true (eqb (count_in b backings) 0) None (file_in b s.backings) t) ∙ sym (ap not t)
+          let t = eq-eqb (count_in b f.named) 0 z in
+          ap is_some (files b ∙ cond-true (eqb (count_in b f.named) 0) None (file_in b s.backings) t) ∙ sym (ap not t)
       | inr ne ↦
-          let t = ne_eqb (count_in b backings) 0 ne in
+          let t = ne_eqb (count_in b f.named) 0 ne in
           let sum = counts b in
-          ap is_some (files b ∙ cond-false (eqb (count_in b backings) 0) None (file_in b s.backings) t) ∙ is.files b
+          ap is_some (files b ∙ cond-false (eqb (count_in b f.named) 0) None (file_in b s.backings) t) ∙ is.files b
           ∙ ap not (ne_eqb (count_in b s.backings) 0 (λ z. ne (omega arith))) ∙ sym (ap not t)
     ];
-    backings_rise = rises;
-    named_known = λ b some. let sum = counts b in is.named_known b (omega arith);
-    dead = dead_are;
-    known_fall = is.known_fall;
-    dead_fall = falls;
-    taken_fall = is.taken_fall;
+    lists = are;
   }
 
   -- what is still referenced, after it
@@ -364,77 +341,5 @@ list_counts f (x ∷ bs) h = ap₂ (λ (n : ℕ) (r : List (ℕ × ℕ)). (x.num
 
 pub counts_listed : {F : Type 0} (s : Seen F) → IsSet s → map {B = ℕ × ℕ} (λ x. (x.num, x.count)) s.backings ≡ map {B = ℕ × ℕ} (λ x. (x.num, named s x.num)) s.backings
 counts_listed {F} s is = list_counts (named s) s.backings (λ k d l.
-    count_found s.backings (get_or s.backings k d).num k d is.backings_rise l (λ e. ap (λ (x : Backing F). x.num) (get_or_default s.backings k e d l))
+    count_found s.backings (get_or s.backings k d).num k d is.lists.named_rise l (λ e. ap (λ (x : Backing F). x.num) (get_or_default s.backings k e d l))
     ∙ is.counts (get_or s.backings k d).num)
-
--- one number more is known
-pub set_known : {F : Type 0} (s : Seen F) (known dead : List ℕ) (spare num : ℕ) → IsSet s → IsFalling known → IsFalling dead → ((n : ℕ) → is_among n known ≡ (eqb n num || is_among n s.known))
-    → ((n : ℕ) → is_among n dead ≡ ((eqb n num && (eqb (count_in n s.backings) 0 && not (is_among n s.taken))) || is_among n s.dead)) → IsSet (record s { known = known; dead = dead; spare = spare })
-set_known s known dead spare num is falls falling more died = record {
-  older_rise = is.older_rise;
-  older_before = is.older_before;
-  older_held = is.older_held;
-  holds_stand = is.holds_stand;
-  slots_rise = is.slots_rise;
-  slots_before = is.slots_before;
-  counts = is.counts;
-  files = is.files;
-  backings_rise = is.backings_rise;
-  named_known = λ b some. more b ∙ or_right (eqb b num) (is_among b s.known) (is.named_known b some);
-  dead = λ n.
-      died n ∙ ap (λ t. (eqb n num && (eqb (count_in n s.backings) 0 && not (is_among n s.taken))) || t) (is.dead n)
-      ∙ joined (eqb n num) (is_among n s.known) (eqb (count_in n s.backings) 0 && not (is_among n s.taken))
-      ∙ ap (λ t. t && (eqb (count_in n s.backings) 0 && not (is_among n s.taken))) (sym (more n));
-  known_fall = falls;
-  dead_fall = falling;
-  taken_fall = is.taken_fall;
-}
-  where
-    joined : (a k z : Bool) → ((a && z) || (k && z)) ≡ ((a || k) && z)
-    joined true true true = refl
-    joined true true false = refl
-    joined true false true = refl
-    joined true false false = refl
-    joined false k z = refl
-
-pub set_spare : {F : Type 0} (s : Seen F) (spare : ℕ) → IsSet s → IsSet (record s { spare = spare })
-set_spare s spare is = record {
-  older_rise = is.older_rise;
-  older_before = is.older_before;
-  older_held = is.older_held;
-  holds_stand = is.holds_stand;
-  slots_rise = is.slots_rise;
-  slots_before = is.slots_before;
-  counts = is.counts;
-  files = is.files;
-  backings_rise = is.backings_rise;
-  named_known = is.named_known;
-  dead = is.dead;
-  known_fall = is.known_fall;
-  dead_fall = is.dead_fall;
-  taken_fall = is.taken_fall;
-}
-
--- whether a number that is known from now on dies
-died_by : {F : Type 0} (bs : List (Backing F)) (taken : List ℕ) (num n : ℕ) (t d : Bool) → (eqb (count_in num bs) 0 && not (is_among num taken)) ≡ t → ((eqb n num && t) || d) ≡ ((eqb n num && (eqb (count_in n bs) 0 && not (is_among n taken))) || d)
-died_by bs taken num n t d h = elim (cases_eq n num) [
-  | inl e ↦ ap (λ z. (eqb n num && z) || d) (sym h ∙ ap (λ k. eqb (count_in k bs) 0 && not (is_among k taken)) (sym e))
-  | inr ne ↦
-      let off = ne_eqb n num ne in
-      ap (λ a. (a && t) || d) off ∙ sym (ap (λ a. (a && (eqb (count_in n bs) 0 && not (is_among n taken))) || d) off)
-]
-
-pub dies : {F : Type 0} (bs : List (Backing F)) (taken : List ℕ) (num n : ℕ) (d : Bool) → eqb (count_in num bs) 0 ≡ true → is_among num taken ≡ false → (eqb n num || d) ≡ ((eqb n num && (eqb (count_in n bs) 0 && not (is_among n taken))) || d)
-dies bs taken num n d z t = ap (λ a. a || d) (sym (and_true (eqb n num))) ∙ died_by bs taken num n true d (ap₂ (λ a b. a && not b) z t)
-  where
-    and_true : (a : Bool) → (a && true) ≡ a
-    and_true true = refl
-    and_true false = refl
-
-pub lives : {F : Type 0} (bs : List (Backing F)) (taken : List ℕ) (num n : ℕ) (d : Bool) → (eqb (count_in num bs) 0 && not (is_among num taken)) ≡ false → d ≡ ((eqb n num && (eqb (count_in n bs) 0 && not (is_among n taken))) || d)
-lives bs taken num n d h = sym (ap (λ a. a || d) (and_right (eqb n num) false refl)) ∙ died_by bs taken num n false d h
-
-pub set_moved : {F : Type 0} (s : Seen F) (older : List Numbered) (bs : List (Backing F)) (spare : ℕ) → older ≡ s.older → bs ≡ s.backings → IsSet s → IsSet (record s { older = older; backings = bs; spare = spare })
-set_moved {F} s older bs spare e f is =
-    subst (λ (o : List Numbered). IsSet (record s { older = o; backings = bs; spare = spare })) (sym e)
-    (subst (λ (xs : List (Backing F)). IsSet (record s { backings = xs; spare = spare })) (sym f) (set_spare s spare is))

@@ -1,7 +1,6 @@
-pub mod Numbers
 pub mod Counts
-pub mod Keyed
 pub mod Backings
+pub mod FileLists
 pub mod Hold
 pub mod Holds
 pub mod Versions

@@ -1,7 +1,7 @@
 //! The versions that are in use, who holds them, and which files their tables name.
 #![tactic(auto)]
 
-mod backings;
+mod files;
 mod holds;
 mod numbers;
 mod older;

@@ -1,20 +1,18 @@
 ghost use Rattle.std.specs.Prelude.{◌≡◌, ◌+◌, ◌≤◌, ◌<◌, ◌==◌, ◌&&◌, ◌||◌, ◌++◌, ◌^◌, not, ℕ, List, [], ◌∷◌, Some, None, true, false, replicate, length, map, All, vec_len, MatchOption, IfOk, IfSome, OnOk, OnErr, IsTrue, is_some, option_copied, if◌then◌else◌};
-ghost use Rattle.std.specs.Vec.{vec_capacity};
 ghost use Rattle.std.specs.List.{list_all};
 ghost use Rattle.xdb_edit.specs.Versions.{no_tables, edited, applies};
 ghost use Rattle.xdb_levels.specs.Applying.{names_below};
-ghost use Rattle.xdb_vset.specs.Counts.{named_by};
 ghost use Rattle.xdb_vset.specs.Hold.{hold};
 ghost use Rattle.xdb_vset.specs.Holds.{slot_of, is_held};
-ghost use Rattle.xdb_vset.specs.Numbers.{is_among};
-ghost use Rattle.xdb_vset.specs.Backings.{count_in, file_in, file_from};
+ghost use Rattle.xdb_lists.specs.Numbers.{is_among, NumbersRise};
+ghost use Rattle.xdb_vset.specs.Backings.{file_in, file_from};
+ghost use Rattle.xdb_vset.specs.FileLists.{file_lists};
 ghost use Rattle.xdb_vset.specs.Versions.{version_in};
-ghost use Rattle.xdb_vset.specs.Keyed.{IsRising};
+ghost use Rattle.xdb_lists.specs.Keyed.{IsRising};
 ghost use Rattle.xdb_vset.specs.Seen.{Seen, IsSet, seen, named, is_dead, is_taken, version_of};
 
-use crate::backings::{self, Backing};
+use crate::files::Files;
 use crate::holds::{self, HoldId, HoldTicket, Slot};
-use crate::numbers;
 use crate::older::{self, InUse};
 use std::alloc::{AllocError, Global};
 use std::marker::Model;
@@ -56,37 +54,29 @@ pub struct VersionSet<F> {
     older: Vec<InUse>,
     /// Tickets and holds; numbers rise.
     slots: Vec<Slot>,
-    /// What is named; numbers rise.
-    backings: Vec<Backing<F>>,
-    /// The greatest first, as the next two.
-    known: Vec<u64>,
-    dead: Vec<u64>,
-    taken: Vec<u64>,
+    files: Files<F>,
     next: u64,
 }
 
 impl<F> Model for VersionSet<F> {
-    ghost use Rattle.std.specs.Prelude.{◌≡◌, ◌+◌, ◌≤◌, ℕ, map, vec_len};
-    ghost use Rattle.std.specs.Vec.{vec_capacity};
+    ghost use Rattle.std.specs.Prelude.{◌≡◌, ℕ, map};
     ghost use Rattle.xdb_vset.specs.Holds.{held_by};
+    ghost use Rattle.xdb_vset.specs.FileLists.{file_lists};
     ghost use Rattle.xdb_vset.specs.Versions.{version_in, holds_of};
-    ghost use Rattle.xdb_vset.specs.Seen.{Seen, IsSet, HasRoom, seen, spare_of};
+    ghost use Rattle.xdb_vset.specs.Seen.{Seen, IsSet, seen};
 
     ghost Value = { Seen F };
 
-    ghost view = { λ s. seen (version_in s.current) (map version_in s.older.items) s.slots.items s.backings.items s.known.items s.dead.items s.taken.items
-        (spare_of (vec_len s.known) (vec_capacity s.known) (vec_len s.dead) (vec_capacity s.dead) (vec_len s.taken) (vec_capacity s.taken) (vec_len s.backings)) s.next };
+    ghost view = { λ s. seen (version_in s.current) (map version_in s.older.items) s.slots.items s.files s.next };
 
-    ghost invariant = { λ s. IsSet (seen (version_in s.current) (map version_in s.older.items) s.slots.items s.backings.items s.known.items s.dead.items s.taken.items
-        (spare_of (vec_len s.known) (vec_capacity s.known) (vec_len s.dead) (vec_capacity s.dead) (vec_len s.taken) (vec_capacity s.taken) (vec_len s.backings)) s.next)
-        × HasRoom (vec_len s.dead) (vec_capacity s.dead) (vec_len s.taken) (vec_capacity s.taken) (vec_len s.backings)
+    ghost invariant = { λ s. IsSet (seen (version_in s.current) (map version_in s.older.items) s.slots.items s.files s.next)
         × ((v : ℕ) → holds_of v s.current s.older.items ≡ held_by v s.slots.items) };
 }
 
 impl<F> VersionSet<F> {
     /// Version 0, without tables. Takes no memory.
     pub fn new(alloc: Global) -> Self
-        ensures { result ≡ seen (record { num = 0; levels = no_tables }) [] [] [] [] [] [] 0 0 }
+        ensures { result ≡ seen (record { num = 0; levels = no_tables }) [] [] (file_lists [] [] [] [] 0 0) 0 }
     {
         VersionSet {
             alloc,
@@ -97,17 +87,16 @@ impl<F> VersionSet<F> {
             },
             older: Vec::new(alloc),
             slots: Vec::new(alloc),
-            backings: Vec::new(alloc),
-            known: Vec::new(alloc),
-            dead: Vec::new(alloc),
-            taken: Vec::new(alloc),
+            files: Files::new(alloc),
             next: 0,
         }
     }
 
     /// The current version.
     pub fn current(&self) -> &Version
-        ensures { result.now ≡ self.now.current.levels }
+        ensures levels { result.now ≡ self.now.current.levels }
+        // What holds of every version set.
+        ensures set { IsSet self.now }
     {
         &self.current.levels
     }
@@ -132,7 +121,7 @@ impl<F> VersionSet<F> {
         // It is there just where a referenced version names it.
         ensures named { is_some result ≡ not (named self.now backing == 0) }
     {
-        backings::file(&self.backings, backing)
+        self.files.file(backing)
     }
 
     /// Room for one hold.
@@ -188,8 +177,8 @@ impl<F> VersionSet<F> {
         // No other file is named.
         ensures all { (b : ℕ) → is_some (file_in b self.now.backings) ≡ not (named self.now b == 0) }
     {
-        let mut counts = Vec::with_capacity(self.alloc, self.backings.len())?;
-        for backing in &self.backings {
+        let mut counts = Vec::with_capacity(self.alloc, self.files.named().len())?;
+        for backing in self.files.named() {
             counts.push((backing.num, backing.count))?;
         }
         Ok(counts)
@@ -201,37 +190,11 @@ impl<F> VersionSet<F> {
         ensures rest { self.new ≡ record self.old { spare = self.new.spare } }
         ensures spare { self.old.spare ≤ self.new.spare }
     {
-        let named = self.backings.len();
-        let dead = self.dead.len();
-        reserve(&mut self.known, 0, 0, n)?;
-        reserve(&mut self.dead, named, 0, n)?;
-        reserve(&mut self.taken, named, dead, n)
-    }
-
-    /// How many more known numbers have room.
-    fn spare(&self) -> usize
-        ensures { result ≡ self.now.spare }
-    {
-        let named = self.backings.len();
-        let dead = self.dead.len();
-        let known = self.known.capacity() - self.known.len();
-        let dying = self.dead.capacity() - (dead + named);
-        let taken = self.taken.capacity() - (self.taken.len() + dead + named);
-        known.min(dying.min(taken))
-    }
-
-    /// The number is known from now on. Takes no memory.
-    fn know(&mut self, num: u64)
-        requires { 1 ≤ self.old.spare }
-        ensures known { (n : ℕ) → is_among n self.new.known ≡ (n == num || is_among n self.old.known) }
-        ensures rest { self.new ≡ record self.old { known = self.new.known; dead = self.new.dead; spare = self.new.spare } }
-        ensures spare { self.old.spare ≤ self.new.spare + 1 }
-    {
-        numbers::put(&mut self.known, num);
-        let unnamed = backings::count(&self.backings, num) == 0;
-        if unnamed && !numbers::has(&self.taken, num) {
-            numbers::put(&mut self.dead, num);
+        let spare = self.files.spare();
+        if n <= spare {
+            return Ok(());
         }
+        self.files.grow(n - spare)
     }
 
     /// The numbers are known from now on, so that each that no referenced version names is dead. Takes no
@@ -242,16 +205,17 @@ impl<F> VersionSet<F> {
         ensures rest { self.new ≡ record self.old { known = self.new.known; dead = self.new.dead; spare = self.new.spare } }
         ensures spare { self.old.spare ≤ self.new.spare + length nums.now }
     {
-        for num in nums {
-            self.know(*num);
-        }
+        self.files.know_all(nums);
     }
 
     /// How many numbers are dead.
     pub fn dead_len(&self) -> usize
-        ensures { result ≡ length self.now.dead }
+        ensures len { result ≡ length self.now.dead }
+        // The list has each dead number once, and no other.
+        ensures rising { NumbersRise self.now.dead }
+        ensures dead { (n : ℕ) → is_among n self.now.dead ≡ is_dead self.now n }
     {
-        self.dead.len()
+        self.files.dead_len()
     }
 
     /// The least dead number, which is taken from now on. Takes no memory.
@@ -262,12 +226,14 @@ impl<F> VersionSet<F> {
         ensures rest { self.new ≡ record self.old { dead = self.new.dead; taken = self.new.taken; spare = self.new.spare } }
         ensures spare { self.old.spare ≤ self.new.spare }
     {
-        if self.dead.is_empty() {
-            return None;
-        }
-        let num = numbers::take_least(&mut self.dead);
-        numbers::put(&mut self.taken, num);
+        let num = self.files.take_least()?;
         Some(Dead { num })
+    }
+
+    /// How many files and numbers the lists have room for.
+    #[cfg(test)]
+    pub fn capacity(&self) -> usize {
+        self.files.capacity()
     }
 
     /// Uses the number up, whose file was removed.
@@ -284,7 +250,6 @@ impl<F: Drop> VersionSet<F> {
         requires levels { IsTrue (names_below 7 edit.now) }
         ensures version { IfOk result (λ v. version_in v ≡ record { num = self.now.current.num + 1; levels = edited self.now.current.levels edit.now }) }
         ensures unheld { IfOk result (λ v. v.holds ≡ 0) }
-        ensures small { IfOk result (λ v. (b : ℕ) → count_in b self.now.backings + named_by b v.levels < 2 ^ 64) }
     {
         let Ok(levels) = self.current.levels.apply(edit) else {
             return Err(AllocError);
@@ -292,9 +257,6 @@ impl<F: Drop> VersionSet<F> {
         let Some(num) = self.current.num.checked_add(1) else {
             return Err(AllocError);
         };
-        if !backings::can_raise(&self.backings, &levels) {
-            return Err(AllocError);
-        }
         Ok(InUse {
             num,
             levels,
@@ -324,30 +286,17 @@ impl<F: Drop> VersionSet<F> {
         ensures spare { self.old.spare ≤ self.new.spare }
     {
         let next = self.after(&edit)?;
-        let Some(room) = self.spare().checked_add(files.len()) else {
+        if !self.files.can_raise(&next.levels) {
             return Err(AllocError);
-        };
-        self.room(room)?;
-        self.backings.try_reserve(files.len())?;
+        }
         self.older.try_reserve(1)?;
-        numbers::put_all(&mut self.known, edit.new_backings());
-        backings::add_version(
-            &mut self.backings,
-            &mut self.dead,
-            &self.taken,
-            &next.levels,
-            edit.new_backings(),
-            files,
-        );
+        self.files.grow(files.len())?;
+        self.files
+            .add_version(&next.levels, edit.new_backings(), files);
         let Some(gone) = older::follow(&mut self.current, &mut self.older, next) else {
             return Ok(());
         };
-        backings::lower_version(
-            &mut self.backings,
-            &mut self.dead,
-            &self.taken,
-            &gone.levels,
-        );
+        self.files.lower_version(&gone.levels);
         Ok(())
     }
 
@@ -377,28 +326,7 @@ impl<F: Drop> VersionSet<F> {
                 return;
             }
             let gone = self.older.remove(at);
-            backings::lower_version(
-                &mut self.backings,
-                &mut self.dead,
-                &self.taken,
-                &gone.levels,
-            );
+            self.files.lower_version(&gone.levels);
         }
     }
-}
-
-/// Makes room in the list for as many numbers more as these three are together.
-fn reserve(nums: &mut Vec<u64>, a: usize, b: usize, c: usize) -> Result<(), AllocError>
-    ensures items { nums.new.items ≡ nums.old.items }
-    ensures len { vec_len nums.new ≡ vec_len nums.old }
-    ensures room { OnOk result (vec_len nums.new + a + b + c ≤ vec_capacity nums.new) }
-    ensures capacity { vec_capacity nums.old ≤ vec_capacity nums.new }
-{
-    let Some(more) = a.checked_add(b) else {
-        return Err(AllocError);
-    };
-    let Some(more) = more.checked_add(c) else {
-        return Err(AllocError);
-    };
-    nums.try_reserve(more)
 }

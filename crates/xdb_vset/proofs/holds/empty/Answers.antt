@@ -1,7 +1,7 @@
 -- The slot at the place is taken out, and the others stay.
 use Rattle.std.proofs.Common.{◌+◌, ℕ, None, cond, eqb, sym, ap, ◌∙◌}
 use Rattle.xdb_vset.specs.Holds.{slot_of, held_by}
-use Rattle.xdb_vset.proofs.BackingLaws.{same_choice}
+use Rattle.xdb_vset.proofs.FileLaws.{same_choice}
 use Rattle.xdb_vset.proofs.HoldLaws.{emptied, emptied_held, no_slot}
 use Rattle.xdb_vset.proofs.holds.empty.Goals as goal
 

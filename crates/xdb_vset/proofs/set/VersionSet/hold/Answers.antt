@@ -13,7 +13,7 @@ hold-requires-clause-rising g c = rising_seen c.self.inside.older.items c.self.i
 pub hold-requires-clause-small : goal.hold-requires-clause-small
 hold-requires-clause-small g c =
     let few = held_few c.self.inside.slots.items c.self.inside.current.num in
-    let kept = c.self.invariant.2 c.self.inside.current.num in
+    let kept = c.self.invariant.1 c.self.inside.current.num in
     let ok = c.self.inside.slots.ok in
     let small = c.self.inside.slots.small in
     omega arith
@@ -24,10 +24,9 @@ invariant_of-self g c =
     let slots = c.fill.new.slots.items in (
       set_same _ (version_in c.hold.new.current) (map version_in c.hold.new.older.items) c.hold.ensures.current c.hold.ensures.older
           (set_held _ slots c.t.inside.id c.self.inside.current.num c.self.invariant.0 ticket (inl refl) c.fill.ensures.rising c.fill.ensures.slot),
-      c.self.invariant.1,
       λ v.
           let now = c.hold.ensures.holds v in
-          let before = c.self.invariant.2 v in
+          let before = c.self.invariant.1 v in
           let more = c.fill.ensures.held v in
           omega arith,
     )

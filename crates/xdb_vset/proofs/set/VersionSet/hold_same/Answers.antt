@@ -22,7 +22,7 @@ hold-requires-clause-stands g c =
 pub hold-requires-clause-small : goal.hold-requires-clause-small
 hold-requires-clause-small g c =
     let few = held_few c.self.inside.slots.items c.of.inside.version in
-    let kept = c.self.invariant.2 c.of.inside.version in
+    let kept = c.self.invariant.1 c.of.inside.version in
     let ok = c.self.inside.slots.ok in
     let small = c.self.inside.slots.small in
     omega arith
@@ -34,10 +34,9 @@ invariant_of-self g c =
     let open' = ap (λ h. slot_of h.id slots) c.of.view_is ∙ ap (λ s. slot_of c.args.of.now.id s.slots) c.self.view_is ∙ c.requires.open ∙ ap (λ h. Some (Some h.version)) (sym c.of.view_is) in (
       set_same _ (version_in c.hold.new.current) (map version_in c.hold.new.older.items) c.hold.ensures.current c.hold.ensures.older
           (set_held _ c.fill.new.slots.items c.t.inside.id c.of.inside.version c.self.invariant.0 ticket (c.self.invariant.0.holds_stand c.of.inside.id c.of.inside.version open') c.fill.ensures.rising c.fill.ensures.slot),
-      c.self.invariant.1,
       λ v.
           let now = c.hold.ensures.holds v in
-          let before = c.self.invariant.2 v in
+          let before = c.self.invariant.1 v in
           let more = c.fill.ensures.held v in
           omega arith,
     )

@@ -7,7 +7,7 @@ use Rattle.xdb_vset.proofs.SetLaws.{set_ticket, none_next}
 use Rattle.xdb_vset.proofs.set.VersionSet.ticket.Goals as goal
 
 pub invariant_of-self-2 : goal.invariant_of-self-2
-invariant_of-self-2 g c = (set_ticket _ c.push.new.self.items c.in-Some.next c.self.invariant.0 c.in_ok-push.ensures.items c.in-Some.ensures.1, c.self.invariant.1, λ v. c.self.invariant.2 v ∙ sym (ap (held_by v) c.in_ok-push.ensures.items ∙ held_pushed c.self.inside.slots.items c.self.inside.next v))
+invariant_of-self-2 g c = (set_ticket _ c.push.new.self.items c.in-Some.next c.self.invariant.0 c.in_ok-push.ensures.items c.in-Some.ensures.1, λ v. c.self.invariant.1 v ∙ sym (ap (held_by v) c.in_ok-push.ensures.items ∙ held_pushed c.self.inside.slots.items c.self.inside.next v))
 
 pub returns-clause-slot : goal.returns-clause-slot
 returns-clause-slot g c = λ n.

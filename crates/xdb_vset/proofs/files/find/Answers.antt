@@ -1,0 +1,11 @@
+-- The numbers rise, so the search finds the place.
+use Rattle.std.proofs.Common.{◌≡◌, rules}
+use Rattle.std.specs.Ordering.{nat_cmp}
+use Rattle.std.proofs.lemmas.Fn.{always_returns_same}
+use Rattle.xdb_lists.proofs.KeyLaws.{key_sought}
+use Rattle.xdb_vset.proofs.files.find.Goals as goal
+
+pub returns : goal.returns
+returns g c =
+    let by = always_returns_same _ (λ a r. r ≡ nat_cmp a.0.now.num c.args.num) _ (λ a r f' k. search rules) in
+    key_sought (λ b. b.num) c.args.num c.args.named.now c.binary_search_by.result c.requires c.binary_search_by.ensures.bound (c.binary_search_by.ensures.position (λ b. nat_cmp b.num c.args.num) by)
