@@ -5,10 +5,10 @@ use Rattle.std.specs.Option.{option_map, unwrap_or, is_some, IsSome}
 use Rattle.std.proofs.lemmas.Bool.{cases_eq, and_parts, ltb-true, eq-eqb, ne_eqb, cond-true, cond-false, and_right, false≢true}
 use Rattle.std.proofs.lemmas.List.Quantifiers.{all_pairs_remove}
 use Rattle.xdb_vset.specs.declared.backings.Backing.{Backing}
-use Rattle.xdb_vset.specs.Numbers.{EndsAt, is_among}
-use Rattle.xdb_vset.specs.Keyed.{IsRising, at_key}
+use Rattle.xdb_lists.specs.Numbers.{EndsAt, is_among}
+use Rattle.xdb_lists.specs.Keyed.{IsRising, at_key}
 use Rattle.xdb_vset.specs.Backings.{count_in, file_in, file_from, FilesAre, DeadAre}
-use Rattle.xdb_vset.proofs.KeyLaws.{key_found, key_missing, key_set, key_insert, key_remove}
+use Rattle.xdb_lists.proofs.KeyLaws.{key_found, key_missing, key_set, key_insert, key_remove}
 
 module _ {F : Type 0} (bs : List (Backing F)) (num : ℕ) where
   pub count_found : (at : ℕ) (d : Backing F) → IsRising (λ b. b.num) bs → at < length bs → ((d : Backing F) → (get_or bs at d).num ≡ num) → (get_or bs at d).count ≡ count_in num bs

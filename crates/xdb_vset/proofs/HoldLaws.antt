@@ -8,11 +8,11 @@ use Rattle.std.proofs.lemmas.List.Folds.{Any-from_list_any, find-append}
 use Rattle.std.proofs.lemmas.List.Quantifiers.{all_pairs_push}
 use Rattle.std.proofs.lemmas.List.Sums.{count_by-le-length, sum_by-cons, sum_by-set, sum_by-remove, sum_by_push}
 use Rattle.xdb_vset.specs.declared.holds.Slot.{Slot}
-use Rattle.xdb_vset.specs.Numbers.{EndsAt}
-use Rattle.xdb_vset.specs.Keyed.{IsRising, at_key}
+use Rattle.xdb_lists.specs.Numbers.{EndsAt}
+use Rattle.xdb_lists.specs.Keyed.{IsRising, at_key}
 use Rattle.xdb_vset.specs.Holds.{slot_of, is_held, held_by, holds_version}
-use Rattle.xdb_vset.proofs.KeyLaws.{key_found, key_missing, key_set, key_remove}
-use Rattle.xdb_vset.proofs.NumberLaws.{eqb_turned}
+use Rattle.xdb_lists.proofs.KeyLaws.{key_found, key_missing, key_set, key_remove}
+use Rattle.xdb_lists.proofs.NumberLaws.{eqb_turned}
 use Rattle.xdb_vset.proofs.BackingLaws.{ap_cond}
 
 module _ (ss : List Slot) (id : ℕ) (at : ℕ) (rising : IsRising (λ s. s.id) ss) (l : at < length ss) (here : (d : Slot) → (get_or ss at d).id ≡ id) where

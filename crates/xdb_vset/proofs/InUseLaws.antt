@@ -4,10 +4,10 @@ use Rattle.std.specs.List.{remove}
 use Rattle.std.specs.Option.{option_map, unwrap_or, is_some, IsSome}
 use Rattle.std.proofs.lemmas.Bool.{cases_eq, eq-eqb, ne_eqb, cond-true, cond-false}
 use Rattle.std.proofs.lemmas.List.{get_or-map, length-map, map-append, take-map, drop-map}
-use Rattle.xdb_vset.specs.Keyed.{IsRising, at_key}
+use Rattle.xdb_lists.specs.Keyed.{IsRising, at_key}
 use Rattle.xdb_vset.specs.declared.older.InUse.{InUse}
 use Rattle.xdb_vset.specs.Versions.{Numbered, version_in, holds_of}
-use Rattle.xdb_vset.proofs.KeyLaws.{key_found, key_set, key_remove, key_pushed}
+use Rattle.xdb_lists.proofs.KeyLaws.{key_found, key_set, key_remove, key_pushed}
 use Rattle.xdb_vset.proofs.BackingLaws.{ap_cond, one_less}
 
 -- ---- what is seen of the versions

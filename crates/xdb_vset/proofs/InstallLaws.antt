@@ -12,15 +12,15 @@ use Rattle.xdb_meta.specs.Table.{Table}
 use Rattle.xdb_edit.specs.Changes.{Changes}
 use Rattle.xdb_edit.specs.Versions.{LevelLists, table_cmp, put_in, put_all_in, removes, added_to, edited_level, edited_from, edited}
 use Rattle.xdb_vset.specs.declared.backings.Backing.{Backing}
-use Rattle.xdb_vset.specs.Keyed.{IsRising, at_key}
-use Rattle.xdb_vset.specs.Numbers.{is_among, IsFalling}
+use Rattle.xdb_lists.specs.Keyed.{IsRising, at_key}
+use Rattle.xdb_lists.specs.Numbers.{is_among, IsFalling}
 use Rattle.xdb_vset.specs.Counts.{named_in, named_by, count}
 use Rattle.xdb_vset.specs.Backings.{count_in, file_in, file_from, FilesAre, DeadAre}
 use Rattle.xdb_vset.specs.Holds.{is_held}
 use Rattle.xdb_vset.specs.Versions.{Numbered}
 use Rattle.xdb_vset.specs.Seen.{Seen, IsSet, named, version_of}
-use Rattle.xdb_vset.proofs.NumberLaws.{eqb_turned}
-use Rattle.xdb_vset.proofs.KeyLaws.{key_found, key_pushed}
+use Rattle.xdb_lists.proofs.NumberLaws.{eqb_turned}
+use Rattle.xdb_lists.proofs.KeyLaws.{key_found, key_pushed}
 use Rattle.xdb_vset.proofs.HoldLaws.{held_from}
 use Rattle.xdb_vset.proofs.SetLaws.{named_split, older_none, referenced_only}
 

@@ -1,6 +1,3 @@
-pub mod OrderLaws
-pub mod NumberLaws
-pub mod KeyLaws
 pub mod BackingLaws
 pub mod HoldLaws
 pub mod InUseLaws

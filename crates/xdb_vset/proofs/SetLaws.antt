@@ -7,19 +7,19 @@ use Rattle.std.proofs.lemmas.List.Quantifiers.{all_pairs_remove}
 use Rattle.xdb_vset.specs.declared.backings.Backing.{Backing}
 use Rattle.std.proofs.lemmas.List.Sums.{sum_by-cons, sum_by-append, sum_by-remove}
 use Rattle.xdb_vset.specs.declared.holds.Slot.{Slot}
-use Rattle.xdb_vset.specs.Keyed.{IsRising, at_key}
+use Rattle.xdb_lists.specs.Keyed.{IsRising, at_key}
 use Rattle.xdb_vset.specs.Holds.{slot_of, is_held}
-use Rattle.xdb_vset.specs.Numbers.{is_among, IsFalling, EndsAt}
+use Rattle.xdb_lists.specs.Numbers.{is_among, IsFalling, EndsAt}
 use Rattle.xdb_vset.specs.Counts.{named_by, count}
 use Rattle.xdb_vset.specs.Backings.{count_in, file_in, FilesAre, DeadAre}
 use Rattle.xdb_vset.specs.Seen.{Seen, IsSet, is_dead, named, version_of}
 use Rattle.xdb_vset.specs.declared.older.InUse.{InUse}
 use Rattle.xdb_vset.specs.Versions.{Numbered, version_in}
-use Rattle.xdb_vset.proofs.KeyLaws.{key_found, key_missing, key_remove}
+use Rattle.xdb_lists.proofs.KeyLaws.{key_found, key_missing, key_remove}
 use Rattle.xdb_vset.proofs.BackingLaws.{count_found}
 use Rattle.xdb_vset.proofs.InUseLaws.{seen_at, seen_some}
 use Rattle.std.proofs.lemmas.List.{get_or_default}
-use Rattle.xdb_vset.proofs.NumberLaws.{left_over}
+use Rattle.xdb_lists.proofs.NumberLaws.{left_over}
 use Rattle.xdb_vset.proofs.HoldLaws.{held_from, held_tells, slot_pushed, rising_pushed}
 
 -- a ticket becomes a hold of a version that is there

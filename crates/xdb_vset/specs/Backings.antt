@@ -4,8 +4,8 @@ use Rattle.std.specs.Option.{option_map, unwrap_or}
 use Rattle.std.specs.List.{list_all}
 use Rattle.xdb_edit.specs.Versions.{LevelLists}
 use Rattle.xdb_vset.specs.Counts.{table_count}
-use Rattle.xdb_vset.specs.Keyed.{at_key}
-use Rattle.xdb_vset.specs.Numbers.{is_among}
+use Rattle.xdb_lists.specs.Keyed.{at_key}
+use Rattle.xdb_lists.specs.Numbers.{is_among}
 use Rattle.xdb_vset.specs.declared.backings.Backing.{Backing}
 
 -- the running count of a number, 0 where it isn't there

@@ -2,7 +2,7 @@
 use Rattle.std.specs.Prelude.{ℕ, Bool, false, ◌==◌, List, Option, Some, None, count_by}
 use Rattle.std.specs.List.{list_any}
 use Rattle.std.specs.Option.{option_map}
-use Rattle.xdb_vset.specs.Keyed.{at_key}
+use Rattle.xdb_lists.specs.Keyed.{at_key}
 use Rattle.xdb_vset.specs.declared.holds.Slot.{Slot}
 
 -- what stands under a number: nothing, a ticket, or a hold of a version

@@ -1,6 +1,4 @@
-pub mod Numbers
 pub mod Counts
-pub mod Keyed
 pub mod Backings
 pub mod Hold
 pub mod Holds

@@ -5,8 +5,8 @@ use Rattle.xdb_edit.specs.Versions.{LevelLists}
 use Rattle.xdb_vset.specs.declared.holds.Slot.{Slot}
 use Rattle.xdb_vset.specs.declared.backings.Backing.{Backing}
 use Rattle.xdb_vset.specs.Counts.{count}
-use Rattle.xdb_vset.specs.Keyed.{IsRising, at_key}
-use Rattle.xdb_vset.specs.Numbers.{is_among, IsFalling}
+use Rattle.xdb_lists.specs.Keyed.{IsRising, at_key}
+use Rattle.xdb_lists.specs.Numbers.{is_among, IsFalling}
 use Rattle.xdb_vset.specs.Backings.{count_in, file_in, DeadAre}
 use Rattle.xdb_vset.specs.Holds.{slot_of, is_held}
 use Rattle.xdb_vset.specs.Versions.{Numbered}

@@ -2,7 +2,7 @@
 use Rattle.std.specs.Prelude.{ℕ, ◌==◌, List, if◌then◌else◌}
 use Rattle.std.specs.Option.{option_map, unwrap_or}
 use Rattle.xdb_edit.specs.Versions.{LevelLists}
-use Rattle.xdb_vset.specs.Keyed.{at_key}
+use Rattle.xdb_lists.specs.Keyed.{at_key}
 use Rattle.xdb_vset.specs.declared.older.InUse.{InUse}
 
 -- a version: how many edits it came of, and its tables

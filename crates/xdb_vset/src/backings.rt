@@ -2,8 +2,8 @@
 ghost use Rattle.std.specs.Prelude.{Bool, List, Option, slice_index_or, ◌≡◌, ◌+◌, ◌-◌, ◌≤◌, ◌<◌, ◌==◌, ◌&&◌, ◌||◌, ◌^◌, not, ℕ, Some, None, length, vec_len, IsSome, IsTrue, is_some, nat_lt, option_copied, if◌then◌else◌};
 ghost use Rattle.std.specs.Vec.{vec_capacity};
 ghost use Rattle.std.specs.List.{remove};
-ghost use Rattle.xdb_vset.specs.Numbers.{is_among, IsFalling, EndsAt};
-ghost use Rattle.xdb_vset.specs.Keyed.{IsRising};
+ghost use Rattle.xdb_lists.specs.Numbers.{is_among, IsFalling, EndsAt};
+ghost use Rattle.xdb_lists.specs.Keyed.{IsRising};
 ghost use Rattle.xdb_vset.specs.Counts.{named_in, named_by, table_count};
 ghost use Rattle.xdb_vset.specs.Backings.{count_in, file_in, file_from, may_rise, FilesAre, DeadAre};
 

@@ -1,8 +1,8 @@
 //! Tickets and holds.
 ghost use Rattle.std.specs.Prelude.{◌≡◌, ◌+◌, ◌≤◌, ◌<◌, ◌==◌, ℕ, Some, None, IsSome, IfSome, vec_len, if◌then◌else◌};
 ghost use Rattle.std.specs.Vec.{vec_capacity};
-ghost use Rattle.xdb_vset.specs.Numbers.{EndsAt};
-ghost use Rattle.xdb_vset.specs.Keyed.{IsRising};
+ghost use Rattle.xdb_lists.specs.Numbers.{EndsAt};
+ghost use Rattle.xdb_lists.specs.Keyed.{IsRising};
 ghost use Rattle.xdb_vset.specs.Holds.{slot_of, held_by};
 
 use std::marker::Model;

@@ -1,7 +1,7 @@
 //! Distinct numbers, the greatest first, so that the least is taken without moving the others.
 ghost use Rattle.std.specs.Prelude.{◌≡◌, ◌+◌, ◌≤◌, ◌<◌, ◌||◌, ◌&&◌, ◌==◌, not, ℕ, [], ◌∷◌, ◌++◌, length, vec_len};
 ghost use Rattle.std.specs.Vec.{vec_capacity};
-ghost use Rattle.xdb_vset.specs.Numbers.{is_among, IsFalling, EndsAt};
+ghost use Rattle.xdb_lists.specs.Numbers.{is_among, IsFalling, EndsAt};
 
 /// The place of the number; or else the place where it belongs.
 fn find(nums: &[u64], num: u64) -> Result<usize, usize>

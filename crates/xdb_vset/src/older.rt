@@ -1,8 +1,8 @@
 //! Versions with their numbers, and how often each is held.
 ghost use Rattle.std.specs.Prelude.{◌≡◌, ◌<◌, ◌≤◌, ◌+◌, ◌==◌, ◌^◌, ◌⊎◌, ◌++◌, ℕ, [], ◌∷◌, Some, None, map, MatchOption, IsSome, vec_len, if◌then◌else◌};
 ghost use Rattle.std.specs.Vec.{vec_capacity};
-ghost use Rattle.xdb_vset.specs.Numbers.{EndsAt};
-ghost use Rattle.xdb_vset.specs.Keyed.{IsRising, at_key};
+ghost use Rattle.xdb_lists.specs.Numbers.{EndsAt};
+ghost use Rattle.xdb_lists.specs.Keyed.{IsRising, at_key};
 ghost use Rattle.xdb_vset.specs.Versions.{version_in, holds_of};
 
 use std::mem;

@@ -6,10 +6,10 @@ ghost use Rattle.xdb_levels.specs.Applying.{names_below};
 ghost use Rattle.xdb_vset.specs.Counts.{named_by};
 ghost use Rattle.xdb_vset.specs.Hold.{hold};
 ghost use Rattle.xdb_vset.specs.Holds.{slot_of, is_held};
-ghost use Rattle.xdb_vset.specs.Numbers.{is_among};
+ghost use Rattle.xdb_lists.specs.Numbers.{is_among};
 ghost use Rattle.xdb_vset.specs.Backings.{count_in, file_in, file_from};
 ghost use Rattle.xdb_vset.specs.Versions.{version_in};
-ghost use Rattle.xdb_vset.specs.Keyed.{IsRising};
+ghost use Rattle.xdb_lists.specs.Keyed.{IsRising};
 ghost use Rattle.xdb_vset.specs.Seen.{Seen, IsSet, seen, named, is_dead, is_taken, version_of};
 
 use crate::backings::{self, Backing};

@@ -1,7 +1,7 @@
 ghost use Rattle.std.specs.Prelude.{◌≡◌, ◌==◌, ◌||◌, not, map, IfOk, IsTrue};
 ghost use Rattle.std.specs.List.{list_all};
 ghost use Rattle.xdb_levels.specs.Applying.{names_below};
-ghost use Rattle.xdb_vset.specs.Numbers.{is_among};
+ghost use Rattle.xdb_lists.specs.Numbers.{is_among};
 ghost use Rattle.xdb_vset.specs.Seen.{named};
 
 use crate::VersionSet;

@@ -1,8 +1,8 @@
 -- A file in place of another, or one more that isn't named yet.
 use Rattle.std.proofs.Common.{◌∙◌, refl, sym, ap, subst}
-use Rattle.xdb_vset.specs.Keyed.{IsRising}
+use Rattle.xdb_lists.specs.Keyed.{IsRising}
 use Rattle.xdb_vset.specs.Backings.{count_in, file_in}
-use Rattle.xdb_vset.proofs.KeyLaws.{rising_insert}
+use Rattle.xdb_lists.proofs.KeyLaws.{rising_insert}
 use Rattle.xdb_vset.proofs.BackingLaws.{count_found, count_missing, set_count, set_file, insert_count, insert_file, same_choice}
 use Rattle.xdb_vset.proofs.backings.bring.Goals as goal
 

@@ -1,6 +1,6 @@
 -- The files so far are brought.
 use Rattle.std.proofs.Common.{◌≡◌, ◌≤◌, ◌+◌, ℕ, length, vec_len, vec_capacity}
-use Rattle.xdb_vset.specs.Keyed.{IsRising}
+use Rattle.xdb_lists.specs.Keyed.{IsRising}
 use Rattle.xdb_vset.specs.Backings.{count_in, file_in, file_from}
 use Rattle.xdb_vset.proofs.backings.bring_all.Given as goal
 

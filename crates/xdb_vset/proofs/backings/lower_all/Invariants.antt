@@ -1,7 +1,7 @@
 -- The files of the first tables are named once less each.
 use Rattle.std.proofs.Common.{◌≡◌, ◌+◌, ◌<◌, ◌≤◌, ℕ, Bool, Option, take, vec_len, vec_capacity, IsTrue}
-use Rattle.xdb_vset.specs.Keyed.{IsRising}
-use Rattle.xdb_vset.specs.Numbers.{IsFalling}
+use Rattle.xdb_lists.specs.Keyed.{IsRising}
+use Rattle.xdb_lists.specs.Numbers.{IsFalling}
 use Rattle.xdb_vset.specs.Counts.{named_in}
 use Rattle.xdb_vset.specs.Backings.{count_in, FilesAre, DeadAre}
 use Rattle.xdb_vset.proofs.backings.lower_all.Given as goal

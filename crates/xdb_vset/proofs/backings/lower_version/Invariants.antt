@@ -1,7 +1,7 @@
 -- The files of the tables of the first levels are named once less each.
 use Rattle.std.proofs.Common.{◌≡◌, ◌+◌, ◌<◌, ◌≤◌, ℕ, Bool, Option, take, vec_len, vec_capacity, IsTrue}
-use Rattle.xdb_vset.specs.Keyed.{IsRising}
-use Rattle.xdb_vset.specs.Numbers.{IsFalling}
+use Rattle.xdb_lists.specs.Keyed.{IsRising}
+use Rattle.xdb_lists.specs.Numbers.{IsFalling}
 use Rattle.xdb_vset.specs.Counts.{named_by}
 use Rattle.xdb_vset.specs.Backings.{count_in, FilesAre, DeadAre}
 use Rattle.xdb_vset.proofs.backings.lower_version.Given as goal

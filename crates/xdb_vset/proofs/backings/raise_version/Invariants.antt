@@ -1,6 +1,6 @@
 -- The files of the tables of the first levels are named once more each.
 use Rattle.std.proofs.Common.{◌≡◌, ◌+◌, ℕ, take}
-use Rattle.xdb_vset.specs.Keyed.{IsRising}
+use Rattle.xdb_lists.specs.Keyed.{IsRising}
 use Rattle.xdb_vset.specs.Counts.{named_by}
 use Rattle.xdb_vset.specs.Backings.{count_in, file_in}
 use Rattle.xdb_vset.proofs.backings.raise_version.Given as goal

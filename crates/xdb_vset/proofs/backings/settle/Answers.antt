@@ -1,10 +1,10 @@
 -- What nothing names is let go.
 use Rattle.std.proofs.Common.{◌≡◌, ◌<◌, ◌∙◌, ◌&&◌, ◌||◌, Bool, true, false, not, eqb, inl, inr, refl, sym, ap, ap₂, subst}
 use Rattle.std.proofs.lemmas.List.Quantifiers.{all_pairs_remove}
-use Rattle.xdb_vset.specs.Keyed.{IsRising}
+use Rattle.xdb_lists.specs.Keyed.{IsRising}
 use Rattle.std.specs.Option.{is_some}
 use Rattle.std.proofs.lemmas.Bool.{eq-eqb, ne_eqb, eqb-true, and_left}
-use Rattle.xdb_vset.specs.Numbers.{is_among}
+use Rattle.xdb_lists.specs.Numbers.{is_among}
 use Rattle.xdb_vset.specs.Backings.{count_in, file_in}
 use Rattle.xdb_vset.proofs.BackingLaws.{count_found, file_found, file_missing, remove_count, remove_file, same_choice, settled_file, unsettled_file, settled_dead, missing_dead}
 use Rattle.xdb_vset.proofs.backings.settle.Goals as goal

@@ -1,8 +1,8 @@
 -- The first numbers are settled.
 use Rattle.std.proofs.Common.{◌≡◌, ◌≤◌, ◌+◌, ◌&&◌, ℕ, not, eqb, cond, None, take, vec_len, vec_capacity}
 use Rattle.std.specs.Option.{is_some}
-use Rattle.xdb_vset.specs.Keyed.{IsRising}
-use Rattle.xdb_vset.specs.Numbers.{is_among, IsFalling}
+use Rattle.xdb_lists.specs.Keyed.{IsRising}
+use Rattle.xdb_lists.specs.Numbers.{is_among, IsFalling}
 use Rattle.xdb_vset.specs.Backings.{count_in, file_in}
 use Rattle.xdb_vset.proofs.backings.settle_all.Given as goal
 

@@ -1,6 +1,6 @@
 -- The slot at the place is filled, and the others stay.
 use Rattle.std.proofs.Common.{Some, refl, sym, ap, ◌∙◌}
-use Rattle.xdb_vset.proofs.KeyLaws.{rising_set}
+use Rattle.xdb_lists.proofs.KeyLaws.{rising_set}
 use Rattle.xdb_vset.proofs.HoldLaws.{filled, filled_held, no_slot}
 use Rattle.xdb_vset.proofs.holds.fill.Goals as goal
 

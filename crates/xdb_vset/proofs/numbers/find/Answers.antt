@@ -2,7 +2,7 @@
 use Rattle.std.proofs.Common.{◌≡◌, rules}
 use Rattle.std.specs.Ordering.{nat_cmp}
 use Rattle.std.proofs.lemmas.Fn.{always_returns_same}
-use Rattle.xdb_vset.proofs.NumberLaws.{sought}
+use Rattle.xdb_lists.proofs.NumberLaws.{sought}
 use Rattle.xdb_vset.proofs.numbers.find.Goals as goal
 
 pub returns : goal.returns

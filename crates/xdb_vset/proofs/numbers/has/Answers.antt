@@ -1,6 +1,6 @@
 -- The search finds the number just where it is among them.
 use Rattle.std.proofs.Common.{◌∙◌}
-use Rattle.xdb_vset.proofs.NumberLaws.{among-sought}
+use Rattle.xdb_lists.proofs.NumberLaws.{among-sought}
 use Rattle.xdb_vset.proofs.numbers.has.Goals as goal
 
 pub returns : goal.returns

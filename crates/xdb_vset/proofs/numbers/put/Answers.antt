@@ -1,8 +1,8 @@
 -- The number is put in at its place, or is there.
 use Rattle.std.proofs.Common.{sym, ap, subst, ◌∙◌, ◌<◌, List, Err, ℕ}
 use Rattle.std.specs.Result.{is_ok}
-use Rattle.xdb_vset.specs.Numbers.{is_among, IsFalling, EndsAt}
-use Rattle.xdb_vset.proofs.NumberLaws.{among_insert, among_present, among-sought, falling_insert}
+use Rattle.xdb_lists.specs.Numbers.{is_among, IsFalling, EndsAt}
+use Rattle.xdb_lists.proofs.NumberLaws.{among_insert, among_present, among-sought, falling_insert}
 use Rattle.xdb_vset.proofs.numbers.put.Goals as goal
 
 pub returns-in-Ok-clause-among : goal.returns-in-Ok-clause-among

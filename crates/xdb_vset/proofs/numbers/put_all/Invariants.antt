@@ -1,6 +1,6 @@
 -- The first numbers are put in.
 use Rattle.std.proofs.Common.{◌≡◌, ◌≤◌, ◌+◌, ◌||◌, ℕ, take, vec_len, vec_capacity}
-use Rattle.xdb_vset.specs.Numbers.{is_among, IsFalling}
+use Rattle.xdb_lists.specs.Numbers.{is_among, IsFalling}
 use Rattle.xdb_vset.proofs.numbers.put_all.Given as goal
 
 abbrev pub invariant-loop-num : goal.invariant-loop-num

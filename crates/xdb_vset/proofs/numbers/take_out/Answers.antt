@@ -1,8 +1,8 @@
 -- The number is taken from its place, or isn't there.
 use Rattle.std.proofs.Common.{sym, ap, subst, ◌∙◌, ◌<◌, List, Ok, ℕ}
 use Rattle.std.specs.Result.{is_ok}
-use Rattle.xdb_vset.specs.Numbers.{is_among, EndsAt}
-use Rattle.xdb_vset.proofs.NumberLaws.{among_remove, among_absent, among-sought}
+use Rattle.xdb_lists.specs.Numbers.{is_among, EndsAt}
+use Rattle.xdb_lists.proofs.NumberLaws.{among_remove, among_absent, among-sought}
 use Rattle.xdb_vset.proofs.numbers.take_out.Goals as goal
 
 pub returns-in-Ok-clause-among : goal.returns-in-Ok-clause-among

@@ -4,7 +4,7 @@ use Rattle.std.proofs.Math.Seq.{map-set_same}
 use Rattle.std.specs.Option.{is_some}
 use Rattle.std.proofs.lemmas.Bool.{false≢true}
 use Rattle.xdb_vset.specs.Versions.{version_in, holds_of}
-use Rattle.xdb_vset.proofs.KeyLaws.{key_missing}
+use Rattle.xdb_lists.proofs.KeyLaws.{key_missing}
 use Rattle.xdb_vset.proofs.BackingLaws.{one_more}
 use Rattle.xdb_vset.proofs.InUseLaws.{holds_set, holds_here}
 use Rattle.xdb_vset.proofs.older.hold.Goals as goal

@@ -1,7 +1,7 @@
 -- The first tables lie in files that are named or new.
 use Rattle.std.proofs.Common.{◌≡◌, ◌||◌, not, eqb, take, true}
 use Rattle.std.specs.List.{list_all}
-use Rattle.xdb_vset.specs.Numbers.{is_among}
+use Rattle.xdb_lists.specs.Numbers.{is_among}
 use Rattle.xdb_vset.specs.Seen.{named}
 use Rattle.xdb_vset.proofs.tests.is_backed.Given as goal
 

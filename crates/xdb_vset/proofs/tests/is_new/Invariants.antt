@@ -1,6 +1,6 @@
 -- The number isn't among the first ones.
 use Rattle.std.proofs.Common.{◌≡◌, take, false}
-use Rattle.xdb_vset.specs.Numbers.{is_among}
+use Rattle.xdb_lists.specs.Numbers.{is_among}
 use Rattle.xdb_vset.proofs.tests.is_new.Given as goal
 
 abbrev pub invariant-loop-new : goal.invariant-loop-new

@@ -2,8 +2,8 @@
 use Rattle.std.proofs.Common.{ℕ, List, map, refl, sym, ap, subst, ◌∙◌}
 use Rattle.std.proofs.lemmas.List.{take_all}
 use Rattle.xdb_vset.specs.declared.backings.Backing.{Backing}
-use Rattle.xdb_vset.specs.Keyed.{IsRising}
-use Rattle.xdb_vset.proofs.KeyLaws.{rising_map}
+use Rattle.xdb_lists.specs.Keyed.{IsRising}
+use Rattle.xdb_lists.proofs.KeyLaws.{rising_map}
 use Rattle.xdb_vset.specs.Seen.{Seen, named}
 use Rattle.xdb_vset.proofs.SetLaws.{counts_listed}
 use Rattle.xdb_vset.proofs.set.VersionSet.counts.Goals as goal

@@ -1,6 +1,6 @@
 -- The version is current, or among the older ones.
 use Rattle.std.proofs.Common.{Some, refl, sym, ap, subst, ◌∙◌}
-use Rattle.xdb_vset.specs.Keyed.{IsRising}
+use Rattle.xdb_lists.specs.Keyed.{IsRising}
 use Rattle.xdb_vset.specs.Holds.{slot_of}
 use Rattle.xdb_vset.specs.Seen.{version_of}
 use Rattle.xdb_vset.proofs.InUseLaws.{rising_seen}

@@ -7,8 +7,8 @@ use Rattle.xdb_meta.specs.Table.{Table}
 use Rattle.xdb_edit.specs.Versions.{LevelLists, edited}
 use Rattle.xdb_vset.specs.declared.backings.Backing.{Backing}
 use Rattle.xdb_vset.specs.declared.older.InUse.{InUse}
-use Rattle.xdb_vset.specs.Keyed.{IsRising}
-use Rattle.xdb_vset.specs.Numbers.{is_among, IsFalling}
+use Rattle.xdb_lists.specs.Keyed.{IsRising}
+use Rattle.xdb_lists.specs.Numbers.{is_among, IsFalling}
 use Rattle.xdb_vset.specs.Counts.{named_by}
 use Rattle.xdb_vset.specs.Backings.{count_in, file_in, file_from}
 use Rattle.xdb_vset.specs.Holds.{is_held}

@@ -1,7 +1,7 @@
 -- One number more is known, and it is dead unless it is named or was taken.
 use Rattle.std.proofs.Common.{◌≡◌, ◌∙◌, not, eqb, true, false, sym, ap, arith}
 use Rattle.std.proofs.lemmas.Bool.{eq-eqb, ne_eqb, and_left, and_right}
-use Rattle.xdb_vset.specs.Numbers.{is_among}
+use Rattle.xdb_lists.specs.Numbers.{is_among}
 use Rattle.xdb_vset.specs.Backings.{count_in}
 use Rattle.xdb_vset.proofs.SetLaws.{set_known, dies, lives}
 use Rattle.xdb_vset.proofs.set.VersionSet.know.Goals as goal

@@ -1,6 +1,6 @@
 -- The first numbers are known.
 use Rattle.std.proofs.Common.{◌≡◌, ◌≤◌, ◌+◌, ◌||◌, ℕ, take}
-use Rattle.xdb_vset.specs.Numbers.{is_among}
+use Rattle.xdb_lists.specs.Numbers.{is_among}
 use Rattle.xdb_vset.proofs.set.VersionSet.known.Given as goal
 
 abbrev pub invariant-loop-num : goal.invariant-loop-num

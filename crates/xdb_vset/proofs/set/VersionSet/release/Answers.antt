@@ -1,10 +1,10 @@
 -- A hold is given back.
 use Rattle.std.proofs.Common.{◌≡◌, ℕ, ◌+◌, ◌-◌, Some, None, cond, eqb, ◌||◌, map, set, inl, inr, refl, sym, ap, ap₂, subst, ◌∙◌, arith}
 use Rattle.std.proofs.Math.Seq.{map-set_same}
-use Rattle.xdb_vset.specs.Keyed.{IsRising}
+use Rattle.xdb_lists.specs.Keyed.{IsRising}
 use Rattle.xdb_vset.specs.declared.older.InUse.{InUse}
 use Rattle.xdb_vset.specs.Holds.{slot_of, is_held, held_by}
-use Rattle.xdb_vset.specs.Numbers.{is_among}
+use Rattle.xdb_lists.specs.Numbers.{is_among}
 use Rattle.xdb_vset.specs.Versions.{version_in, holds_of}
 use Rattle.xdb_vset.specs.Seen.{Seen, version_of}
 use Rattle.xdb_vset.proofs.HoldLaws.{one_held, is_held_some, is_held_none}

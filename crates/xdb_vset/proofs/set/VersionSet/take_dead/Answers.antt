@@ -1,7 +1,7 @@
 -- The least dead number is taken.
 use Rattle.std.proofs.Common.{◌≤◌, ℕ, IsTrue, sym, subst, ◌∙◌, arith}
 use Rattle.xdb_vset.specs.Seen.{Seen, is_dead}
-use Rattle.xdb_vset.proofs.NumberLaws.{least, among_last}
+use Rattle.xdb_lists.proofs.NumberLaws.{least, among_last}
 use Rattle.xdb_vset.proofs.SetLaws.{dead_is, set_taken}
 use Rattle.xdb_vset.proofs.set.VersionSet.take_dead.Goals as goal
 

@@ -1,8 +1,26 @@
--- Lists in an order of their own, with one element more.
-use Rattle.std.proofs.Common.{◌≡◌, ℕ, ◌+◌, ◌-◌, ◌<◌, ◌≤◌, List, length, get_or, sym, ap, subst, ◌∙◌, inl, inr, arith}
-use Rattle.std.specs.List.{AllPairs, insert}
+-- What a comparison of numbers tells, and lists in an order of their own, with one element more.
+use Rattle.std.proofs.Common.{◌≡◌, ℕ, suc, ◌+◌, ◌-◌, ◌<◌, ◌≤◌, List, ◌∷◌, length, get_or, sym, ap, subst, ◌∙◌, inl, inr, arith}
+use Rattle.std.specs.List.{All, AllPairs, insert}
+use Rattle.std.specs.declared.cmp.Ordering.TheVariants.{Less, Equal, Greater}
+use Rattle.std.specs.Ordering.{nat_cmp}
 use Rattle.std.proofs.lemmas.Bool.{cases_order}
+use Rattle.std.proofs.lemmas.Cmp.{ranked}
 use Rattle.std.proofs.lemmas.List.Edits.{length-insert, get_or-insert_below, get_or-insert_at, get_or-insert_above}
+
+pub equal_tells : (a b : ℕ) → nat_cmp a b ≡ Equal → a ≡ b
+equal_tells a b h = let r = ranked a b Equal (sym h) in r
+
+pub less_tells : (a b : ℕ) → nat_cmp a b ≡ Less → a < b
+less_tells a b h = let r = ranked a b Less (sym h) in r
+
+pub greater_tells : (a b : ℕ) → nat_cmp a b ≡ Greater → b < a
+greater_tells a b h = let r = ranked a b Greater (sym h) in r
+
+pub AllPairs-head : {X : Type 0} (R : X → X → Type 0) (x : X) (xs : List X) → AllPairs R (x ∷ xs) → All (R x) xs
+AllPairs-head R x xs h = λ k d l. h 0 (suc k) d (omega arith) (omega arith)
+
+pub AllPairs-tail : {X : Type 0} (R : X → X → Type 0) (x : X) (xs : List X) → AllPairs R (x ∷ xs) → AllPairs R xs
+AllPairs-tail R x xs h = λ i j d less l. h (suc i) (suc j) d (omega arith) (omega arith)
 
 module _ {X : Type 0} (R : X → X → Type 0) (xs : List X) (i : ℕ) (y : X) (within : i ≤ length xs) where
   -- an element of the longer list is the new one, or one of those before it or behind it

@@ -3,26 +3,15 @@ use Rattle.std.proofs.Common.{◌≡◌, ℕ, suc, ◌+◌, ◌<◌, ◌≤◌, 
 use Rattle.std.specs.List.{insert, remove}
 use Rattle.std.specs.List.Sorted.{IsBinarySearchResult, IsSearchInRange, IsNonDecreasingBy}
 use Rattle.std.specs.Option.{option_or}
-use Rattle.std.specs.declared.cmp.Ordering.TheVariants.{Less, Equal, Greater}
 use Rattle.std.specs.Ordering.{nat_cmp, ordering_index}
 use Rattle.std.proofs.lemmas.Bool.{cases_order, cases_lt, cases_eq, eq-eqb, ne_eqb, cond-true, cond-false}
 use Rattle.std.proofs.lemmas.Bool.Decides.{nat_tests}
-use Rattle.std.proofs.lemmas.Cmp.{ranked}
 use Rattle.std.proofs.lemmas.List.{take-append-drop, drop_more, set_split, get_or-take, length-take, length-set, get_or-set_same, get_or-set_other, get_or-map, length-map}
 use Rattle.std.proofs.lemmas.List.Edits.{length-remove, get_or-remove_below, get_or-remove_above}
 use Rattle.std.proofs.lemmas.List.Folds.{find-append}
-use Rattle.xdb_vset.specs.Numbers.{EndsAt}
-use Rattle.xdb_vset.specs.Keyed.{IsRising, at_key}
-use Rattle.xdb_vset.proofs.OrderLaws.{all_pairs_insert}
-
-equal_tells : (a b : ℕ) → nat_cmp a b ≡ Equal → a ≡ b
-equal_tells a b h = let r = ranked a b Equal (sym h) in r
-
-less_tells : (a b : ℕ) → nat_cmp a b ≡ Less → a < b
-less_tells a b h = let r = ranked a b Less (sym h) in r
-
-greater_tells : (a b : ℕ) → nat_cmp a b ≡ Greater → b < a
-greater_tells a b h = let r = ranked a b Greater (sym h) in r
+use Rattle.xdb_lists.specs.Numbers.{EndsAt}
+use Rattle.xdb_lists.specs.Keyed.{IsRising, at_key}
+use Rattle.xdb_lists.proofs.OrderLaws.{all_pairs_insert, equal_tells, less_tells, greater_tells}
 
 index_rises : (num a b : ℕ) → a < b → ordering_index (nat_cmp a num) ≤ ordering_index (nat_cmp b num)
 index_rises num a b less = grind (arith, nat_tests)
