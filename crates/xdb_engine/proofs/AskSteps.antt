@@ -1,5 +1,5 @@
 -- A question that is asked.
-use Rattle.std.proofs.Common.{◌≡◌, ℕ, ◌+◌, ◌<◌, Bool, true, false, cond, eqb, leb, ◌||◌, List, [], ◌∷◌, ◌++◌, length, map, append-nil, Option, Some, None, refl, sym, ap, ◌∙◌, subst, IsTrue, arith}
+use Rattle.std.proofs.Common.{◌≡◌, ℕ, ◌+◌, ◌<◌, Bool, true, false, cond, eqb, leb, ◌||◌, List, [], ◌∷◌, ◌++◌, length, Option, Some, None, is_none, refl, sym, ap, ◌∙◌, subst, IsTrue, arith}
 use Rattle.std.proofs.lemmas.Bool.{false≢true, eq-eqb, lt-leb, le-leb}
 use Rattle.std.proofs.lemmas.List.{length-map, map-append}
 use Rattle.std.proofs.lemmas.List.Elements.{All-push}
@@ -18,11 +18,13 @@ use Rattle.xdb_mem.proofs.ContentLaws.{items-clear}
 use Rattle.xdb_order.specs.Desk.{fresh_story}
 use Rattle.xdb_plain.specs.Answers.{answer_now}
 use Rattle.xdb_plain.specs.Changes.{after, new_question}
-use Rattle.xdb_plain.specs.Outcomes.{outcome}
+use Rattle.xdb_plain.specs.Legal.{AnswersRight}
+use Rattle.xdb_plain.specs.Outcomes.{outcome, is_refused}
+use Rattle.xdb_plain.proofs.RefusalLaws.{refused-after}
 use Rattle.xdb_plain.specs.Replies.{same_reply, ask_replies, new_ask_replies, room_replies, through_replies, on_cursor_replies}
 use Rattle.xdb_history.specs.Recorded.{Recorded, state_of}
 use Rattle.xdb_plain.specs.State.{groups as plain_groups}
-use Rattle.xdb_plain.specs.State.{Plain, found_snap, found_cursor, found_question, without_question}
+use Rattle.xdb_plain.specs.State.{Plain, found_snap, found_cursor, found_question}
 use Rattle.xdb_plain.specs.Steps.{MayStand, FitsAsk, FitsEdit, FitsTried, IsShown, is_client, asked_number}
 use Rattle.xdb_plain.specs.declared.act.Act.TheVariants as act
 use Rattle.xdb_plain.specs.declared.act.By.{By}
@@ -36,13 +38,13 @@ use Rattle.xdb_rangedel.specs.Content.{IsClear}
 use Rattle.xdb_read.specs.Fits.{content, parts_map, meant}
 use Rattle.xdb_read.specs.declared.parts.ReadParts.{ReadParts}
 use Rattle.xdb_engine.specs.Asks.{ArePartsOf, Leaves, IsAsked}
-use Rattle.xdb_engine.specs.Notes.{plain_note}
-use Rattle.xdb_engine.specs.Questions.{Asking, asking, found, heard}
+use Rattle.xdb_engine.specs.Notes.{plain_note, is_fault}
+use Rattle.xdb_engine.specs.Questions.{Asking, asking, found, heard, FitsGiven}
 use Rattle.xdb_engine.specs.Seen.{Seen, plain_of}
 use Rattle.xdb_engine.specs.Stands.{Core, IsNumbered, IsQuiet, Agrees, Means}
-use Rattle.xdb_engine.proofs.ListLaws.{under-none, others-none}
-use Rattle.xdb_engine.proofs.QuestionLaws.{found-plain, without-heard}
-use Rattle.xdb_engine.proofs.StateLaws.{Step, seen, IsAlike, agrees-alike, means-alike}
+use Rattle.xdb_lists.proofs.PlaceLaws.{under-none}
+use Rattle.xdb_engine.proofs.QuestionLaws.{found-plain}
+use Rattle.xdb_engine.proofs.StateLaws.{Step, seen, still-step}
 
 -- ---- what the parts mean
 
@@ -144,7 +146,7 @@ module _ {F : Type 0} (c : Core F) (p : Plain) (by : By) (question : Question) (
 
     opened-agrees : Agrees opened-core (after p (ask_note ask (Asked ask)))
     opened-agrees = record {
-      sealed = append-nil p.sealed ∙ a.sealed;
+      sealed = a.sealed;
       active = a.active;
       next = a.next;
       file = a.file;
@@ -164,6 +166,7 @@ module _ {F : Type 0} (c : Core F) (p : Plain) (by : By) (question : Question) (
       image = m.image;
       questions = map-append heard c.questions (asking ask by parted given fresh_story None ∷ []) ∙ (λ i. m.questions i ++ new-heard i ∷ []);
       clear = All-push (λ (q : Asking F). IsClear (content q.given)) c.questions (asking ask by parted given fresh_story None) m.clear (parts-are-clear c p question given a parts);
+      fits = All-push FitsGiven c.questions (asking ask by parted given fresh_story None) m.fits tt;
     }
 
     opened-step : Step opened-core p (ask_note ask (Asked ask))
@@ -171,19 +174,10 @@ module _ {F : Type 0} (c : Core F) (p : Plain) (by : By) (question : Question) (
 
   -- ---- a question that isn't opened
 
-  refused-alike : IsAlike p (after p (ask_note 0 NoSuch))
-  refused-alike = record { sealed = append-nil p.sealed; active = refl; next = refl; file = refl; asked = refl; snaps = refl; cursors = refl; loads = refl; jobs = refl; known = refl; map = refl; questions = refl }
-
-  many-alike : IsAlike p (after p (ask_note 0 TooMany))
-  many-alike = record { sealed = append-nil p.sealed; active = refl; next = refl; file = refl; asked = refl; snaps = refl; cursors = refl; loads = refl; jobs = refl; known = refl; map = refl; questions = refl }
-
-  without-zero : without_question 0 p.questions ≡ p.questions
-  without-zero =
-      ap (without_question 0) (sym m.questions) ∙ without-heard 0 c.questions
-      ∙ ap (map heard) (others-none (λ (q : Asking F). q.ask) (IsNumbered c.asked) 0 c.questions a.numbered (λ q n e. let from = n.from in omega arith)) ∙ m.questions
-
-  lack-alike : IsAlike p (after p (ask_note 0 Memory))
-  lack-alike = record { sealed = append-nil p.sealed; active = refl; next = refl; file = refl; asked = refl; snaps = refl; cursors = refl; loads = refl; jobs = refl; known = refl; map = refl; questions = without-zero }
+  -- such a step leaves the state: no question has the number 0
+  still-asked : (reply : Reply) → is_refused p (act.Ask 0 question parted) (outcome reply) ≡ true → MayStand p (ask_note 0 reply) → AnswersRight p (act.Ask 0 question parted) reply → is_fault reply ≡ false → Step c p (ask_note 0 reply)
+  still-asked reply refused stands answers calm =
+      still-step c p (ask_note 0 reply) a m stands answers calm (refused-after p (ask_note 0 reply) stands refl refused)
 
   same-core : (asked : ℕ) (new : List (Asking F)) → Leaves c.asked c.questions new asked → c ≡ record c { asked = asked; questions = new }
   same-core asked new left = λ i. record c { asked = sym left.same_asked i; questions = sym left.same i }
@@ -193,27 +187,15 @@ module _ {F : Type 0} (c : Core F) (p : Plain) (by : By) (question : Question) (
   ask-step asked new (Asked ask) (Some given) is =
       subst (λ (x : ℕ × List (Asking F)). Step (record c { asked = x.0; questions = x.1 }) p (ask_note ask (Asked ask))) (λ i. (sym is.counted i, sym is.opened i))
       (opened-step ask given is.number is.of_now is.parts is.room)
-  ask-step asked new NoSuch None is = subst (λ x. Step x p (ask_note 0 NoSuch)) (same-core asked new is.0) (record {
-    stands = ask-stands 0 NoSuch none-zero refl (ap (list_any (same_reply NoSuch)) (replies-then p question a.quiet is.1)) tt refl refl;
-    answers = tt;
-    agrees = agrees-alike c p (after p (ask_note 0 NoSuch)) refused-alike a;
-    means = means-alike c p (after p (ask_note 0 NoSuch)) refused-alike m;
-    calm = refl;
-  })
-  ask-step asked new TooMany None is = subst (λ x. Step x p (ask_note 0 TooMany)) (same-core asked new is.0) (record {
-    stands = ask-stands 0 TooMany none-zero refl (ap (list_any (same_reply TooMany)) (replies-now p question is.1 ∙ room-at true (le-leb 64 (length c.questions) is.2))) tt refl refl;
-    answers = tt;
-    agrees = agrees-alike c p (after p (ask_note 0 TooMany)) many-alike a;
-    means = means-alike c p (after p (ask_note 0 TooMany)) many-alike m;
-    calm = refl;
-  })
-  ask-step asked new Memory None is = subst (λ x. Step x p (ask_note 0 Memory)) (same-core asked new is.0) (record {
-    stands = ask-stands 0 Memory none-zero refl (ap (list_any (same_reply Memory)) (replies-now p question is.1 ∙ room-at false (lt-leb 64 (length c.questions) is.2))) tt refl refl;
-    answers = tt;
-    agrees = agrees-alike c p (after p (ask_note 0 Memory)) lack-alike a;
-    means = means-alike c p (after p (ask_note 0 Memory)) lack-alike m;
-    calm = refl;
-  })
+  ask-step asked new NoSuch None is =
+      subst (λ x. Step x p (ask_note 0 NoSuch)) (same-core asked new is.0)
+      (still-asked NoSuch refl (ask-stands 0 NoSuch none-zero refl (ap (list_any (same_reply NoSuch)) (replies-then p question a.quiet is.1)) tt refl refl) tt refl)
+  ask-step asked new TooMany None is =
+      subst (λ x. Step x p (ask_note 0 TooMany)) (same-core asked new is.0)
+      (still-asked TooMany refl (ask-stands 0 TooMany none-zero refl (ap (list_any (same_reply TooMany)) (replies-now p question is.1 ∙ room-at true (le-leb 64 (length c.questions) is.2))) tt refl refl) tt refl)
+  ask-step asked new Memory None is =
+      subst (λ x. Step x p (ask_note 0 Memory)) (same-core asked new is.0)
+      (still-asked Memory (ap is_none (none-plain 0 none-zero)) (ask-stands 0 Memory none-zero refl (ap (list_any (same_reply Memory)) (replies-now p question is.1 ∙ room-at false (lt-leb 64 (length c.questions) is.2))) tt refl refl) tt refl)
   ask-step asked new _ _ is = absurd is
 
 -- what callers see of an ask

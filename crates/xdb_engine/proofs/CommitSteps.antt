@@ -1,5 +1,5 @@
 -- A commit, and a seal.
-use Rattle.std.proofs.Common.{◌≡◌, ℕ, suc, ◌+◌, ◌<◌, ◌≤◌, ◌^◌, Bool, true, false, cond, ltb, eqb, ◌||◌, List, [], ◌∷◌, ◌++◌, length, append-nil, Option, Some, None, refl, sym, ap, ◌∙◌, subst, IsTrue, inl, inr, arith}
+use Rattle.std.proofs.Common.{◌≡◌, ℕ, suc, ◌+◌, ◌<◌, ◌≤◌, ◌^◌, Bool, true, false, cond, ltb, eqb, ◌||◌, List, [], ◌∷◌, ◌++◌, length, Option, Some, None, refl, sym, ap, ◌∙◌, subst, IsTrue, inl, inr, arith}
 use Rattle.std.proofs.lemmas.Bool.{cases_lt, lt-ltb, false≢true, eq-eqb, ne_eqb}
 use Rattle.std.specs.List.{list_any, enumerate_from}
 use Rattle.xdb_key.specs.declared.op.Op.{Op}
@@ -16,7 +16,8 @@ use Rattle.xdb_plain.specs.Edits.{is_empty}
 use Rattle.xdb_plain.specs.Replies.{may_reply, same_reply, kept_back, commit_replies, seal_replies}
 use Rattle.xdb_plain.specs.PlainMap.{acted_all}
 use Rattle.xdb_plain.specs.State.{Plain}
-use Rattle.xdb_plain.specs.Steps.{MayStand, is_client}
+use Rattle.xdb_plain.specs.Outcomes.{outcome}
+use Rattle.xdb_plain.specs.Steps.{MayStand, FitsEdit, FitsTried, IsShown, is_client}
 use Rattle.xdb_plain.specs.declared.act.Act.TheVariants as act
 use Rattle.xdb_plain.specs.declared.act.By.{By}
 use Rattle.xdb_plain.specs.declared.act.By.TheVariants.{Db}
@@ -29,7 +30,7 @@ use Rattle.xdb_rangedel.proofs.MemberLaws.{Has-from_map}
 use Rattle.xdb_engine.specs.Commits.{is_spent, IsCommitted, seal_reply}
 use Rattle.xdb_engine.specs.Notes.{plain_note}
 use Rattle.xdb_engine.specs.Stands.{Core, Agrees, Means}
-use Rattle.xdb_engine.proofs.StateLaws.{committed-ops, sealed-ops, items-append, Step, IsAlike, agrees-alike, means-alike}
+use Rattle.xdb_engine.proofs.StateLaws.{committed-ops, sealed-ops, items-append, Step, still-step}
 
 -- ---- replies
 
@@ -63,15 +64,9 @@ last-below before first (op ∷ ops) h = omega arith
 -- ---- steps
 
 module _ {F : Type 0} (c : Core F) (p : Plain) (by : By) (form : CommitForm) (ops : List Op) (a : Agrees c p) (m : Means c p) (client : IsTrue (is_client by)) where
-  done-stands : is_spent c.next (length ops) ≡ false → MayStand p (plain_note by (act.Commit form ops) Done)
-  done-stands enough = record {
-    by = client;
-    reply = may-commit p by form ops c.next false Done a.quiet.no_loads a.next enough refl;
-    act = tt;
-    edit = refl;
-    tried = refl;
-    shown = tt;
-  }
+  commit-stands : (reply : Reply) (spent : Bool) → is_spent c.next (length ops) ≡ spent → list_any (same_reply reply) (cond spent (Spent ∷ []) (Memory ∷ Done ∷ [])) ≡ true → IsShown p reply → FitsEdit p (act.Commit form ops) reply None → FitsTried p (act.Commit form ops) (outcome reply) [] → MayStand p (plain_note by (act.Commit form ops) reply)
+  commit-stands reply spent e may shown edit tried =
+      record { by = client; reply = may-commit p by form ops c.next spent reply a.quiet.no_loads a.next e may; act = tt; edit = edit; tried = tried; shown = shown }
 
   -- the parts after it
   abbrev done-core : Core F
@@ -85,7 +80,7 @@ module _ {F : Type 0} (c : Core F) (p : Plain) (by : By) (form : CommitForm) (op
 
   done-agrees : is_spent c.next (length ops) ≡ false → Agrees done-core (after p (plain_note by (act.Commit form ops) Done))
   done-agrees enough = record {
-    sealed = append-nil p.sealed ∙ a.sealed;
+    sealed = a.sealed;
     active = (λ i. record { num = (a.active i).num; ops = (a.active i).ops ++ enumerate_from (a.next i) ops }) ∙ ap (λ xs. record { num = c.queue.active.num; ops = c.queue.active.ops ++ xs }) (sym (numbered-is c.next ops));
     next = ap (λ n. n + length ops) a.next;
     file = a.file;
@@ -105,13 +100,8 @@ module _ {F : Type 0} (c : Core F) (p : Plain) (by : By) (form : CommitForm) (op
         image = subst (λ x. IsImage x (c.next + length ops) (acted_all p.map ops)) (sym (ap items (committed-ops c.next ops c.queue) ∙ items-append (all_ops (groups c.queue)) (numbered c.next ops))) more.image;
         questions = m.questions;
         clear = m.clear;
+        fits = m.fits;
       }
-
-  lack-alike : IsAlike p (after p (plain_note by (act.Commit form ops) Memory))
-  lack-alike = record { sealed = append-nil p.sealed; active = refl; next = refl; file = refl; asked = refl; snaps = refl; cursors = refl; loads = refl; jobs = refl; known = refl; map = refl; questions = refl }
-
-  spent-alike : IsAlike p (after p (plain_note by (act.Commit form ops) Spent))
-  spent-alike = record { sealed = append-nil p.sealed; active = refl; next = refl; file = refl; asked = refl; snaps = refl; cursors = refl; loads = refl; jobs = refl; known = refl; map = refl; questions = refl }
 
   same-core : (queue : Queue) (next : ℕ) → queue ≡ c.queue → next ≡ c.next → c ≡ record c { queue = queue; next = next }
   same-core queue next e f = λ i. record c { queue = sym e i; next = sym f i }
@@ -119,26 +109,18 @@ module _ {F : Type 0} (c : Core F) (p : Plain) (by : By) (form : CommitForm) (op
   pub commit-step : (queue : Queue) (next : ℕ) (reply : Reply) → IsCommitted c.queue queue c.next next ops reply → Step (record c { queue = queue; next = next }) p (plain_note by (act.Commit form ops) reply)
   commit-step queue next Done is =
       subst (λ (x : Queue × ℕ). Step (record c { queue = x.0; next = x.1 }) p (plain_note by (act.Commit form ops) Done)) (λ i. (sym is.0 i, sym is.1 i)) (record {
-        stands = done-stands is.2;
+        stands = commit-stands Done false is.2 refl tt refl refl;
         answers = tt;
         agrees = done-agrees is.2;
         means = done-means;
         calm = refl;
       })
-  commit-step queue next Memory is = subst (λ x. Step x p (plain_note by (act.Commit form ops) Memory)) (same-core queue next is.0 is.1) (record {
-    stands = record { by = client; reply = may-commit p by form ops c.next false Memory a.quiet.no_loads a.next is.2 refl; act = tt; edit = refl; tried = refl; shown = tt };
-    answers = tt;
-    agrees = agrees-alike c p (after p (plain_note by (act.Commit form ops) Memory)) lack-alike a;
-    means = means-alike c p (after p (plain_note by (act.Commit form ops) Memory)) lack-alike m;
-    calm = refl;
-  })
-  commit-step queue next Spent is = subst (λ x. Step x p (plain_note by (act.Commit form ops) Spent)) (same-core queue next is.0 is.1) (record {
-    stands = record { by = client; reply = may-commit p by form ops c.next true Spent a.quiet.no_loads a.next is.2 refl; act = tt; edit = refl; tried = refl; shown = tt };
-    answers = tt;
-    agrees = agrees-alike c p (after p (plain_note by (act.Commit form ops) Spent)) spent-alike a;
-    means = means-alike c p (after p (plain_note by (act.Commit form ops) Spent)) spent-alike m;
-    calm = refl;
-  })
+  commit-step queue next Memory is =
+      subst (λ x. Step x p (plain_note by (act.Commit form ops) Memory)) (same-core queue next is.0 is.1)
+      (still-step c p (plain_note by (act.Commit form ops) Memory) a m (commit-stands Memory false is.2 refl tt refl refl) tt refl refl)
+  commit-step queue next Spent is =
+      subst (λ x. Step x p (plain_note by (act.Commit form ops) Spent)) (same-core queue next is.0 is.1)
+      (still-step c p (plain_note by (act.Commit form ops) Spent) a m (commit-stands Spent true is.2 refl tt refl refl) tt refl refl)
   commit-step queue next _ is = absurd is
 
 -- ---- a seal
@@ -157,17 +139,10 @@ module _ {F : Type 0} (c : Core F) (p : Plain) (a : Agrees c p) (m : Means c p) 
   empty-at : is_empty p.active.ops ≡ eqb (length c.queue.active.ops) 0
   empty-at = ap (λ g. is_empty g.ops) a.active ∙ sym (empty-tells c.queue.active.ops)
 
-  nothing-alike : IsAlike p (after p (plain_note Db act.Seal Nothing))
-  nothing-alike = record { sealed = append-nil p.sealed; active = refl; next = refl; file = refl; asked = refl; snaps = refl; cursors = refl; loads = refl; jobs = refl; known = refl; map = refl; questions = refl }
-
   nothing-step : eqb (length c.queue.active.ops) 0 ≡ true → Step c p (plain_note Db act.Seal Nothing)
-  nothing-step e = record {
-    stands = record { by = refl; reply = ap (list_any (same_reply Nothing)) (seal-replies-at p true (empty-at ∙ e)); act = tt; edit = refl; tried = refl; shown = tt };
-    answers = tt;
-    agrees = agrees-alike c p (after p (plain_note Db act.Seal Nothing)) nothing-alike a;
-    means = means-alike c p (after p (plain_note Db act.Seal Nothing)) nothing-alike m;
-    calm = refl;
-  }
+  nothing-step e =
+      still-step c p (plain_note Db act.Seal Nothing) a m
+      (record { by = refl; reply = ap (list_any (same_reply Nothing)) (seal-replies-at p true (empty-at ∙ e)); act = tt; edit = refl; tried = refl; shown = tt }) tt refl refl
 
   sealed-stands : (n : ℕ) → n ≡ c.queue.active.num → eqb (length c.queue.active.ops) 0 ≡ false → MayStand p (plain_note Db act.Seal (Group n))
   sealed-stands n is e = record {
@@ -201,6 +176,7 @@ module _ {F : Type 0} (c : Core F) (p : Plain) (a : Agrees c p) (m : Means c p) 
     image = subst (λ x. IsImage x c.next p.map) (sym (ap items (sealed-ops c.queue))) m.image;
     questions = m.questions;
     clear = m.clear;
+    fits = m.fits;
   }
 
   sealed-step : (n : ℕ) → n ≡ c.queue.active.num → eqb (length c.queue.active.ops) 0 ≡ false → Step (record c { queue = sealed_once c.queue }) p (plain_note Db act.Seal (Group n))

@@ -1,5 +1,4 @@
 -- The laws, by topic.
-pub mod ListLaws
 pub mod QuestionLaws
 pub mod StateLaws
 pub mod CommitSteps

@@ -10,11 +10,11 @@ use Rattle.xdb_plain.specs.declared.act.Act.TheVariants as act
 use Rattle.xdb_plain.specs.declared.reply.Reply.TheVariants as reply
 use Rattle.xdb_read.specs.Fits.{ReadFits}
 use Rattle.xdb_read.specs.declared.parts.ReadDone.{ReadDone}
-use Rattle.xdb_vset.specs.Keyed.{IsRising}
-use Rattle.xdb_vset.proofs.KeyLaws.{key_found}
+use Rattle.xdb_lists.specs.Keyed.{IsRising}
+use Rattle.xdb_lists.proofs.KeyLaws.{key_found}
 use Rattle.xdb_engine.specs.Questions.{Asking, found, without, replaced, heard, IsPlaceOf, looked, answer_act, answer_of, IsSettled, LooksAt, LooksFor}
 use Rattle.xdb_engine.specs.declared.questions.Settled.{Settled}
-use Rattle.xdb_engine.proofs.ListLaws.{remove_is, set_is}
+use Rattle.xdb_lists.proofs.PlaceLaws.{remove_is, set_is}
 
 module _ {F : Type 0} where
   map-choice : (b : Bool) (q : Asking F) (o : Option (Asking F)) → cond b (Some (heard q)) (option_map heard o) ≡ option_map heard (cond b (Some q) o)
@@ -91,20 +91,20 @@ module _ {F : Type 0} where
 
   -- ---- a look
 
-  looks-by : (at : ℕ) (questions : List (Asking F)) (q r : Asking F) (b : Bool) (kept : Option ReadDone) → q.kept ≡ kept → get_or questions at q ≡ q → set questions at r ≡ replaced r questions → r ≡ looked q r.story r.kept → (IsSome q.kept → r ≡ q) → (q.kept ≡ None → Looks q.story (is_some r.kept) r.story) → b ≡ is_some r.kept → LooksAt kept q questions (set questions at r) b
-  looks-by at questions q r b (Some done) e is replace same stays look answer =
+  looks-by : (at : ℕ) (questions : List (Asking F)) (q r : Asking F) (b : Bool) (kept : Option ReadDone) → q.kept ≡ kept → get_or questions at q ≡ q → set questions at r ≡ replaced r questions → r ≡ looked q r.story r.kept → (IsSome q.kept → r ≡ q) → (q.kept ≡ None → Looks q.story (is_some r.kept) r.story) → IfSome r.kept (ReadFits q.given) → b ≡ is_some r.kept → LooksAt kept q questions (set questions at r) b
+  looks-by at questions q r b (Some done) e is replace same stays look fits answer =
       let unchanged : r ≡ q = stays (ap is_some e) in (
         ap (set questions at) (unchanged ∙ sym is) ∙ set-get_or questions at q,
         answer ∙ ap (λ (x : Asking F). is_some x.kept) unchanged ∙ ap is_some e,
       )
-  looks-by at questions q r b None e is replace same stays look answer =
-      (r.story, r.kept, replace ∙ ap (λ x. replaced x questions) same, look e, answer)
+  looks-by at questions q r b None e is replace same stays look fits answer =
+      record { story = r.story; kept = r.kept; leaves = replace ∙ ap (λ x. replaced x questions) same; look = look e; tells = answer; fits = fits }
 
-  pub looks : (ask at : ℕ) (questions : List (Asking F)) (q r : Asking F) (b : Bool) → IsRising (λ x. x.ask) questions → IsPlaceOf ask questions (Some at) → get_or questions at q ≡ q → r ≡ looked q r.story r.kept → (IsSome q.kept → r ≡ q) → (q.kept ≡ None → Looks q.story (is_some r.kept) r.story) → b ≡ is_some r.kept → LooksFor (found ask questions) questions (set questions at r) b
-  looks ask at questions q r b rising place is same stays look answer =
+  pub looks : (ask at : ℕ) (questions : List (Asking F)) (q r : Asking F) (b : Bool) → IsRising (λ x. x.ask) questions → IsPlaceOf ask questions (Some at) → get_or questions at q ≡ q → r ≡ looked q r.story r.kept → (IsSome q.kept → r ≡ q) → (q.kept ≡ None → Looks q.story (is_some r.kept) r.story) → IfSome r.kept (ReadFits q.given) → b ≡ is_some r.kept → LooksFor (found ask questions) questions (set questions at r) b
+  looks ask at questions q r b rising place is same stays look fits answer =
       let number : r.ask ≡ ask = ap (λ (x : Asking F). x.ask) same ∙ ap (λ (x : Asking F). x.ask) (sym is) ∙ place.1 q in
       subst (λ o. LooksFor o questions (set questions at r) b) (sym (place-is ask at questions q rising place is))
-      (looks-by at questions q r b q.kept refl is (place-set ask at questions r rising place number) same stays look answer)
+      (looks-by at questions q r b q.kept refl is (place-set ask at questions r rising place number) same stays look fits answer)
 
   -- ---- a result is brought
 

@@ -1,14 +1,13 @@
 -- A question that is settled, and one that ends in vain; work that there is none of; and looks for results.
-use Rattle.std.proofs.Common.{◌≡◌, ℕ, ◌<◌, Bool, true, false, not, cond, eqb, List, [], ◌∷◌, append-nil, Option, Some, None, refl, sym, ap, ◌∙◌, subst, IsTrue}
+use Rattle.std.proofs.Common.{◌≡◌, ℕ, ◌<◌, Bool, true, false, not, cond, eqb, List, [], ◌∷◌, Option, Some, None, refl, sym, ap, ◌∙◌, subst, IsTrue}
 use Rattle.std.proofs.lemmas.Bool.{false≢true}
 use Rattle.std.proofs.lemmas.List.Elements.{All-filter}
 use Rattle.std.proofs.lemmas.List.Kept.{AllPairs-filter}
-use Rattle.std.specs.FinMap.{get}
 use Rattle.std.specs.List.{list_any}
 use Rattle.std.specs.Option.{option_map, is_some, IfSome}
 use Rattle.xdb_history.specs.Recorded.{Recorded, state_of}
 use Rattle.xdb_order.specs.declared.story.Story.{Story}
-use Rattle.xdb_plain.specs.Changes.{after, settled}
+use Rattle.xdb_plain.specs.Changes.{settled}
 use Rattle.xdb_plain.specs.Outcomes.{outcome}
 use Rattle.xdb_plain.specs.Replies.{same_reply, ask_replies, settle_replies, work_replies, build_replies}
 use Rattle.xdb_plain.specs.State.{Plain, Cursor, OpenQuestion, Job, found_question, found_job, without_question}
@@ -17,7 +16,6 @@ use Rattle.xdb_plain.specs.declared.act.Act.{Act}
 use Rattle.xdb_plain.specs.declared.act.Act.TheVariants as act
 use Rattle.xdb_plain.specs.declared.act.By.{By}
 use Rattle.xdb_plain.specs.declared.act.By.TheVariants.{Db}
-use Rattle.xdb_plain.specs.declared.answer.Answer.{Answer}
 use Rattle.xdb_plain.specs.declared.answer.Answer.TheVariants.{Absent}
 use Rattle.xdb_plain.specs.declared.reply.Reply.{Reply}
 use Rattle.xdb_plain.specs.declared.reply.Reply.TheVariants.{Answered, NoSuch, NotYet, Memory, Fault, Damaged}
@@ -25,14 +23,14 @@ use Rattle.xdb_rangedel.specs.Content.{IsClear}
 use Rattle.xdb_read.specs.Fits.{content, ReadFits}
 use Rattle.xdb_read.specs.declared.parts.ReadDone.{ReadDone}
 use Rattle.xdb_engine.specs.Notes.{plain_note, is_work}
-use Rattle.xdb_engine.specs.Questions.{Asking, found, without, replaced, looked, heard, answer_act, answer_of, failure, failure_leaves, failure_act, failure_by, IsSettled, LooksAt, LooksFor, found_by}
+use Rattle.xdb_engine.specs.Questions.{Asking, found, without, replaced, looked, heard, FitsGiven, answer_act, answer_of, failure, failure_leaves, failure_act, failure_by, IsSettled, LooksAt, LooksFor, found_by}
 use Rattle.xdb_engine.specs.Stands.{Core, IsNumbered, Agrees, Means, Stands}
 use Rattle.xdb_engine.specs.declared.ids.Id.{Id}
 use Rattle.xdb_engine.specs.declared.ids.Id.TheVariants as ids
 use Rattle.xdb_engine.specs.declared.questions.Settled.{Settled}
-use Rattle.xdb_engine.proofs.ListLaws.{under-number, under-all, map-with_one, all-with_one, rising-same}
+use Rattle.xdb_lists.proofs.PlaceLaws.{under-number, under-all, map-with_one, all-with_one, rising-same}
 use Rattle.xdb_engine.proofs.QuestionLaws.{found-plain, without-heard}
-use Rattle.xdb_engine.proofs.StateLaws.{Step, IsAlike, agrees-alike, means-alike}
+use Rattle.xdb_engine.proofs.StateLaws.{Step, still-step}
 
 no-cursors : (o : Option OpenQuestion) (cursors : List Cursor) → cursors ≡ [] → settled o cursors ≡ []
 no-cursors None cursors e = e
@@ -54,58 +52,31 @@ module _ {F : Type 0} (c : Core F) (p : Plain) (a : Agrees c p) (m : Means c p) 
     shown = shown;
   }
 
-  none-alike : (by : By) (ask : ℕ) → IsAlike p (after p (plain_note by (act.Settle ask) NoSuch))
-  none-alike by ask = record { sealed = append-nil p.sealed; active = refl; next = refl; file = refl; asked = refl; snaps = refl; cursors = refl; loads = refl; jobs = refl; known = refl; map = refl; questions = refl }
-
-  early-alike : (by : By) (ask : ℕ) → IsAlike p (after p (plain_note by (act.Settle ask) NotYet))
-  early-alike by ask = record { sealed = append-nil p.sealed; active = refl; next = refl; file = refl; asked = refl; snaps = refl; cursors = refl; loads = refl; jobs = refl; known = refl; map = refl; questions = refl }
-
   none-step : (by : By) (ask : ℕ) → IsTrue (is_client by) → found ask c.questions ≡ None → Step c p (plain_note by (act.Settle ask) NoSuch)
-  none-step by ask client is = record {
-    stands = early-stands by ask NoSuch None client is refl tt refl refl;
-    answers = tt;
-    agrees = agrees-alike c p (after p (plain_note by (act.Settle ask) NoSuch)) (none-alike by ask) a;
-    means = means-alike c p (after p (plain_note by (act.Settle ask) NoSuch)) (none-alike by ask) m;
-    calm = refl;
-  }
+  none-step by ask client is =
+      still-step c p (plain_note by (act.Settle ask) NoSuch) a m (early-stands by ask NoSuch None client is refl tt refl refl) tt refl refl
 
   early-step : (by : By) (ask : ℕ) (q : Asking F) → IsTrue (is_client by) → found ask c.questions ≡ Some q → Step c p (plain_note by (act.Settle ask) NotYet)
-  early-step by ask q client is = record {
-    stands = early-stands by ask NotYet (Some q) client is refl tt refl refl;
-    answers = tt;
-    agrees = agrees-alike c p (after p (plain_note by (act.Settle ask) NotYet)) (early-alike by ask) a;
-    means = means-alike c p (after p (plain_note by (act.Settle ask) NotYet)) (early-alike by ask) m;
-    calm = refl;
-  }
+  early-step by ask q client is =
+      still-step c p (plain_note by (act.Settle ask) NotYet) a m (early-stands by ask NotYet (Some q) client is refl tt refl refl) tt refl refl
 
   -- ---- a question ends
 
   abbrev ended : ℕ → Core F
   ended ask = record c { questions = without ask c.questions }
 
-  -- a state whose questions have ended likewise
-  record IsEnded (ask : ℕ) (q : Plain) : Type 0 where
-    pub sealed : q.sealed ≡ p.sealed
-    pub active : q.active ≡ p.active
-    pub next : q.next ≡ p.next
-    pub file : q.file ≡ p.file
-    pub asked : q.asked ≡ p.asked
-    pub snaps : q.snaps ≡ p.snaps
-    pub cursors : q.cursors ≡ []
-    pub loads : q.loads ≡ p.loads
-    pub jobs : q.jobs ≡ p.jobs
-    pub known : q.known ≡ p.known
-    pub map : q.map ≡ p.map
-    pub questions : q.questions ≡ without_question ask p.questions
+  -- the state, but for its questions and cursors
+  abbrev ending : List Cursor → List OpenQuestion → Plain
+  ending cursors questions = record p { cursors = cursors; questions = questions }
 
-  ended-agrees : (ask : ℕ) (q : Plain) → IsEnded ask q → Agrees (ended ask) q
-  ended-agrees ask q e = record {
-    sealed = e.sealed ∙ a.sealed;
-    active = e.active ∙ a.active;
-    next = e.next ∙ a.next;
-    file = e.file ∙ a.file;
-    asked = e.asked ∙ a.asked;
-    quiet = record { no_snaps = e.snaps ∙ a.quiet.no_snaps; no_cursors = e.cursors; no_loads = e.loads ∙ a.quiet.no_loads; no_jobs = e.jobs ∙ a.quiet.no_jobs; no_files = e.known ∙ a.quiet.no_files };
+  ended-agrees : (ask : ℕ) (cursors : List Cursor) (questions : List OpenQuestion) → cursors ≡ [] → Agrees (ended ask) (ending cursors questions)
+  ended-agrees ask cursors questions none = record {
+    sealed = a.sealed;
+    active = a.active;
+    next = a.next;
+    file = a.file;
+    asked = a.asked;
+    quiet = record { no_snaps = a.quiet.no_snaps; no_cursors = none; no_loads = a.quiet.no_loads; no_jobs = a.quiet.no_jobs; no_files = a.quiet.no_files };
     rising = a.rising;
     above = a.above;
     upto = a.upto;
@@ -113,11 +84,12 @@ module _ {F : Type 0} (c : Core F) (p : Plain) (a : Agrees c p) (m : Means c p) 
     numbered = All-filter (λ x. not (eqb x.ask ask)) (IsNumbered c.asked) c.questions a.numbered;
   }
 
-  ended-means : (ask : ℕ) (q : Plain) → IsEnded ask q → Means (ended ask) q
-  ended-means ask q e = record {
-    image = λ k. ap (λ x. get x k) e.map ∙ m.image k;
-    questions = sym (without-heard ask c.questions) ∙ ap (without_question ask) m.questions ∙ sym e.questions;
+  ended-means : (ask : ℕ) (cursors : List Cursor) (questions : List OpenQuestion) → questions ≡ without_question ask p.questions → Means (ended ask) (ending cursors questions)
+  ended-means ask cursors questions left = record {
+    image = m.image;
+    questions = sym (without-heard ask c.questions) ∙ ap (without_question ask) m.questions ∙ sym left;
     clear = All-filter (λ x. not (eqb x.ask ask)) (λ (x : Asking F). IsClear (content x.given)) c.questions m.clear;
+    fits = All-filter (λ x. not (eqb x.ask ask)) FitsGiven c.questions m.fits;
   }
 
   -- an open question with its number
@@ -137,21 +109,24 @@ module _ {F : Type 0} (c : Core F) (p : Plain) (a : Agrees c p) (m : Means c p) 
     right-answer : (done : ReadDone) → ReadFits q.given done → option_map (λ x. x.answer) (found_question q.ask p.questions) ≡ Some done.answer
     right-answer done fits = ap (option_map (λ x. x.answer)) found-q ∙ ap Some (sym (ap (λ l. l.answer) (fits.right clear-q)))
 
-    parted-ended : (by : By) (answer : Answer) → IsEnded ask (after p (plain_note by (act.Settle q.ask) (Answered answer)))
-    parted-ended by answer = record {
-      sealed = append-nil p.sealed;
-      active = refl;
-      next = refl;
-      file = refl;
-      asked = refl;
-      snaps = refl;
-      cursors = no-cursors (found_question q.ask p.questions) p.cursors a.quiet.no_cursors;
-      loads = refl;
-      jobs = refl;
-      known = refl;
-      map = refl;
-      questions = ap (λ n. without_question n p.questions) number;
-    }
+    -- the cursors and the questions behind an answer, and behind a failure
+    no-cursors-q : settled (found_question q.ask p.questions) p.cursors ≡ []
+    no-cursors-q = no-cursors (found_question q.ask p.questions) p.cursors a.quiet.no_cursors
+
+    left-q : without_question q.ask p.questions ≡ without_question ask p.questions
+    left-q = ap (λ n. without_question n p.questions) number
+
+    answered-agrees : Agrees (ended ask) (ending (settled (found_question q.ask p.questions) p.cursors) (without_question q.ask p.questions))
+    answered-agrees = ended-agrees ask (settled (found_question q.ask p.questions) p.cursors) (without_question q.ask p.questions) no-cursors-q
+
+    answered-means : Means (ended ask) (ending (settled (found_question q.ask p.questions) p.cursors) (without_question q.ask p.questions))
+    answered-means = ended-means ask (settled (found_question q.ask p.questions) p.cursors) (without_question q.ask p.questions) left-q
+
+    failed-agrees : Agrees (ended ask) (ending p.cursors (without_question q.ask p.questions))
+    failed-agrees = ended-agrees ask p.cursors (without_question q.ask p.questions) a.quiet.no_cursors
+
+    failed-means : Means (ended ask) (ending p.cursors (without_question q.ask p.questions))
+    failed-means = ended-means ask p.cursors (without_question q.ask p.questions) left-q
 
     parted-step : (by : By) (done : ReadDone) → IsTrue (is_client by) → ReadFits q.given done → q.parted ≡ true → Step (ended ask) p (plain_note by (act.Settle q.ask) (Answered done.answer))
     parted-step by done client fits parted = record {
@@ -166,25 +141,9 @@ module _ {F : Type 0} (c : Core F) (p : Plain) (a : Agrees c p) (m : Means c p) 
         shown = tt;
       };
       answers = right-answer done fits;
-      agrees = ended-agrees ask (after p (plain_note by (act.Settle q.ask) (Answered done.answer))) (parted-ended by done.answer);
-      means = ended-means ask (after p (plain_note by (act.Settle q.ask) (Answered done.answer))) (parted-ended by done.answer);
+      agrees = answered-agrees;
+      means = answered-means;
       calm = refl;
-    }
-
-    whole-ended : (by : By) (answer : Answer) → IsEnded ask (after p (plain_note by (act.Ask q.ask q.given.question false) (Answered answer)))
-    whole-ended by answer = record {
-      sealed = append-nil p.sealed;
-      active = refl;
-      next = refl;
-      file = refl;
-      asked = refl;
-      snaps = refl;
-      cursors = no-cursors (found_question q.ask p.questions) p.cursors a.quiet.no_cursors;
-      loads = refl;
-      jobs = refl;
-      known = refl;
-      map = refl;
-      questions = ap (λ n. without_question n p.questions) number;
     }
 
     whole-step : (by : By) (done : ReadDone) → IsTrue (is_client by) → ReadFits q.given done → q.parted ≡ false → Step (ended ask) p (plain_note by (act.Ask q.ask q.given.question false) (Answered done.answer))
@@ -200,8 +159,8 @@ module _ {F : Type 0} (c : Core F) (p : Plain) (a : Agrees c p) (m : Means c p) 
         shown = tt;
       };
       answers = right-answer done fits;
-      agrees = ended-agrees ask (after p (plain_note by (act.Ask q.ask q.given.question false) (Answered done.answer))) (whole-ended by done.answer);
-      means = ended-means ask (after p (plain_note by (act.Ask q.ask q.given.question false) (Answered done.answer))) (whole-ended by done.answer);
+      agrees = answered-agrees;
+      means = answered-means;
       calm = refl;
     }
 
@@ -213,22 +172,6 @@ module _ {F : Type 0} (c : Core F) (p : Plain) (a : Agrees c p) (m : Means c p) 
     answer-step by done client fits = answer-by q.parted by done client fits refl
 
     -- in vain
-
-    work-ended : IsEnded ask (after p (plain_note Db (act.Work q.ask) Memory))
-    work-ended = record {
-      sealed = append-nil p.sealed;
-      active = refl;
-      next = refl;
-      file = refl;
-      asked = refl;
-      snaps = refl;
-      cursors = a.quiet.no_cursors;
-      loads = refl;
-      jobs = refl;
-      known = refl;
-      map = refl;
-      questions = ap (λ n. without_question n p.questions) number;
-    }
 
     work-step : q.parted ≡ true → Step (ended ask) p (plain_note Db (act.Work q.ask) Memory)
     work-step parted = record {
@@ -243,25 +186,9 @@ module _ {F : Type 0} (c : Core F) (p : Plain) (a : Agrees c p) (m : Means c p) 
         shown = tt;
       };
       answers = tt;
-      agrees = ended-agrees ask (after p (plain_note Db (act.Work q.ask) Memory)) work-ended;
-      means = ended-means ask (after p (plain_note Db (act.Work q.ask) Memory)) work-ended;
+      agrees = failed-agrees;
+      means = failed-means;
       calm = refl;
-    }
-
-    lost-ended : IsEnded ask (after p (plain_note q.by (act.Ask q.ask q.given.question false) Memory))
-    lost-ended = record {
-      sealed = append-nil p.sealed;
-      active = refl;
-      next = refl;
-      file = refl;
-      asked = refl;
-      snaps = refl;
-      cursors = a.quiet.no_cursors;
-      loads = refl;
-      jobs = refl;
-      known = refl;
-      map = refl;
-      questions = ap (λ n. without_question n p.questions) number;
     }
 
     lost-step : q.parted ≡ false → Step (ended ask) p (plain_note q.by (act.Ask q.ask q.given.question false) Memory)
@@ -277,8 +204,8 @@ module _ {F : Type 0} (c : Core F) (p : Plain) (a : Agrees c p) (m : Means c p) 
         shown = tt;
       };
       answers = tt;
-      agrees = ended-agrees ask (after p (plain_note q.by (act.Ask q.ask q.given.question false) Memory)) lost-ended;
-      means = ended-means ask (after p (plain_note q.by (act.Ask q.ask q.given.question false) Memory)) lost-ended;
+      agrees = failed-agrees;
+      means = failed-means;
       calm = refl;
     }
 
@@ -332,27 +259,13 @@ module _ {F : Type 0} (c : Core F) (p : Plain) (a : Agrees c p) (m : Means c p) 
   work-listed None = refl
   work-listed (Some q) = refl
 
-  build-alike : (job : ℕ) → IsAlike p (after p (plain_note Db (act.Build job) NoSuch))
-  build-alike job = record { sealed = append-nil p.sealed; active = refl; next = refl; file = refl; asked = refl; snaps = refl; cursors = refl; loads = refl; jobs = refl; known = refl; map = refl; questions = refl }
-
-  work-alike : (ask : ℕ) → IsAlike p (after p (plain_note Db (act.Work ask) NoSuch))
-  work-alike ask = record { sealed = append-nil p.sealed; active = refl; next = refl; file = refl; asked = refl; snaps = refl; cursors = refl; loads = refl; jobs = refl; known = refl; map = refl; questions = refl }
-
   pub no_such-step : (x : Act) → IsTrue (is_work x) → Step c p (plain_note Db x NoSuch)
-  no_such-step (act.Build job) h = record {
-    stands = record { by = refl; reply = build-listed (found_job job p.jobs); act = tt; edit = refl; tried = refl; shown = tt };
-    answers = tt;
-    agrees = agrees-alike c p (after p (plain_note Db (act.Build job) NoSuch)) (build-alike job) a;
-    means = means-alike c p (after p (plain_note Db (act.Build job) NoSuch)) (build-alike job) m;
-    calm = refl;
-  }
-  no_such-step (act.Work ask) h = record {
-    stands = record { by = refl; reply = work-listed (found_question ask p.questions); act = tt; edit = refl; tried = refl; shown = tt };
-    answers = tt;
-    agrees = agrees-alike c p (after p (plain_note Db (act.Work ask) NoSuch)) (work-alike ask) a;
-    means = means-alike c p (after p (plain_note Db (act.Work ask) NoSuch)) (work-alike ask) m;
-    calm = refl;
-  }
+  no_such-step (act.Build job) h =
+      still-step c p (plain_note Db (act.Build job) NoSuch) a m
+      (record { by = refl; reply = build-listed (found_job job p.jobs); act = tt; edit = refl; tried = refl; shown = tt }) tt refl refl
+  no_such-step (act.Work ask) h =
+      still-step c p (plain_note Db (act.Work ask) NoSuch) a m
+      (record { by = refl; reply = work-listed (found_question ask p.questions); act = tt; edit = refl; tried = refl; shown = tt }) tt refl refl
   no_such-step _ h = absurd (false≢true h)
 
   -- ---- another story and result
@@ -385,21 +298,22 @@ module _ {F : Type 0} (c : Core F) (p : Plain) (a : Agrees c p) (m : Means c p) 
           all-with_one (λ (x : Asking F). x.ask) (IsNumbered c.asked) (looked q story kept) q.ask c.questions (record { from = n.from; given = n.given; client = n.client }) a.numbered;
     }
 
-    looked-means : Means (other (looked q story kept)) p
-    looked-means = record {
+    looked-means : IfSome kept (ReadFits q.given) → Means (other (looked q story kept)) p
+    looked-means fits = record {
       image = m.image;
       questions = map-with_one (λ (x : Asking F). x.ask) heard q (looked q story kept) q.ask c.questions a.ordered found-itself refl ∙ m.questions;
       clear = all-with_one (λ (x : Asking F). x.ask) (λ (x : Asking F). IsClear (content x.given)) (looked q story kept) q.ask c.questions
           (under-all (λ (x : Asking F). x.ask) (λ (x : Asking F). IsClear (content x.given)) ask q c.questions m.clear there) m.clear;
+      fits = all-with_one (λ (x : Asking F). x.ask) FitsGiven (looked q story kept) q.ask c.questions fits m.fits;
     }
 
 -- ---- an engine between steps
 
-pub looked-stands : {F : Type 0} (c : Core F) (h : Recorded) (book ask : ℕ) (q : Asking F) (story : Story) (kept : Option ReadDone) → Stands c h book → found ask c.questions ≡ Some q → Stands (record c { questions = replaced (looked q story kept) c.questions }) h book
-looked-stands c h book ask q story kept s there = record {
+pub looked-stands : {F : Type 0} (c : Core F) (h : Recorded) (book ask : ℕ) (q : Asking F) (story : Story) (kept : Option ReadDone) → Stands c h book → found ask c.questions ≡ Some q → IfSome kept (ReadFits q.given) → Stands (record c { questions = replaced (looked q story kept) c.questions }) h book
+looked-stands c h book ask q story kept s there fits = record {
   right = s.right;
   agrees = looked-agrees c (state_of h) s.agrees s.means ask q story kept there;
-  means = looked-means c (state_of h) s.agrees s.means ask q story kept there;
+  means = looked-means c (state_of h) s.agrees s.means ask q story kept there fits;
   booked = s.booked;
 }
 
@@ -409,7 +323,7 @@ same-stands c h book new s e = subst (λ x. Stands (record c { questions = x }) 
 found-kept : {F : Type 0} (c : Core F) (h : Recorded) (book ask : ℕ) (q : Asking F) (kept : Option ReadDone) (new : List (Asking F)) (b : Bool) → Stands c h book → found ask c.questions ≡ Some q → LooksAt kept q c.questions new b → Stands (record c { questions = new }) h book
 found-kept c h book ask q (Some done) new b s there looks = same-stands c h book new s looks.0
 found-kept c h book ask q None new b s there looks =
-    subst (λ x. Stands (record c { questions = x }) h book) (sym looks.2) (looked-stands c h book ask q looks.0 looks.1 s there)
+    subst (λ x. Stands (record c { questions = x }) h book) (sym looks.leaves) (looked-stands c h book ask q looks.story looks.kept s there looks.fits)
 
 look-by : {F : Type 0} (c : Core F) (h : Recorded) (book ask : ℕ) (o : Option (Asking F)) (new : List (Asking F)) (b : Bool) → Stands c h book → found ask c.questions ≡ o → LooksFor o c.questions new b → Stands (record c { questions = new }) h book
 look-by c h book ask None new b s is looks = same-stands c h book new s looks.0
@@ -420,12 +334,12 @@ look-stands c h book (ids.Ask ask) new b s looks = look-by c h book ask (found a
 look-stands c h book (ids.Job job) new b s looks = same-stands c h book new s looks.0
 look-stands c h book (ids.Load load) new b s looks = same-stands c h book new s looks.0
 
-brought-by : {F : Type 0} (c : Core F) (h : Recorded) (book ask : ℕ) (o : Option (Asking F)) (done : ReadDone) (new : List (Asking F)) → Stands c h book → found ask c.questions ≡ o → is_some o ≡ true → IfSome o (λ q. new ≡ replaced (looked q q.story (Some done)) c.questions) → Stands (record c { questions = new }) h book
-brought-by c h book ask None done new s is some made = absurd (false≢true some)
-brought-by c h book ask (Some q) done new s is some made =
-    subst (λ x. Stands (record c { questions = x }) h book) (sym made) (looked-stands c h book ask q q.story (Some done) s is)
+brought-by : {F : Type 0} (c : Core F) (h : Recorded) (book ask : ℕ) (o : Option (Asking F)) (done : ReadDone) (new : List (Asking F)) → Stands c h book → found ask c.questions ≡ o → is_some o ≡ true → IfSome o (λ q. ReadFits q.given done) → IfSome o (λ q. new ≡ replaced (looked q q.story (Some done)) c.questions) → Stands (record c { questions = new }) h book
+brought-by c h book ask None done new s is some fits made = absurd (false≢true some)
+brought-by c h book ask (Some q) done new s is some fits made =
+    subst (λ x. Stands (record c { questions = x }) h book) (sym made) (looked-stands c h book ask q q.story (Some done) s is fits)
 
-pub brought-stands : {F : Type 0} (c : Core F) (h : Recorded) (book : ℕ) (id : Id) (done : ReadDone) (new : List (Asking F)) → Stands c h book → is_some (found_by id c.questions) ≡ true → IfSome (found_by id c.questions) (λ q. new ≡ replaced (looked q q.story (Some done)) c.questions) → Stands (record c { questions = new }) h book
-brought-stands c h book (ids.Ask ask) done new s some made = brought-by c h book ask (found ask c.questions) done new s refl some made
-brought-stands c h book (ids.Job job) done new s some made = absurd (false≢true some)
-brought-stands c h book (ids.Load load) done new s some made = absurd (false≢true some)
+pub brought-stands : {F : Type 0} (c : Core F) (h : Recorded) (book : ℕ) (id : Id) (done : ReadDone) (new : List (Asking F)) → Stands c h book → is_some (found_by id c.questions) ≡ true → IfSome (found_by id c.questions) (λ q. ReadFits q.given done) → IfSome (found_by id c.questions) (λ q. new ≡ replaced (looked q q.story (Some done)) c.questions) → Stands (record c { questions = new }) h book
+brought-stands c h book (ids.Ask ask) done new s some fits made = brought-by c h book ask (found ask c.questions) done new s refl some fits made
+brought-stands c h book (ids.Job job) done new s some fits made = absurd (false≢true some)
+brought-stands c h book (ids.Load load) done new s some fits made = absurd (false≢true some)

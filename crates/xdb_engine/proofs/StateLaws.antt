@@ -1,7 +1,7 @@
 -- What a plain state has in common with an engine's parts, and what an engine keeps from note to note.
 use Rattle.std.proofs.Common.{◌≡◌, ℕ, ◌+◌, ◌≤◌, ◌^◌, false, cond, None, List, [], ◌∷◌, ◌++◌, append-nil, refl, sym, ap, ◌∙◌, subst, arith}
 use Rattle.std.proofs.lemmas.Grind.{flat_map-append}
-use Rattle.std.specs.FinMap.{get, get-empty}
+use Rattle.std.specs.FinMap.{get-empty}
 use Rattle.std.proofs.lemmas.List.Elements.{All-nil}
 use Rattle.xdb_plain.specs.Fences.{fence_touched}
 use Rattle.xdb_rangedel.specs.Content.{IsClear}
@@ -21,9 +21,9 @@ use Rattle.xdb_plain.specs.Steps.{MayStand}
 use Rattle.xdb_plain.proofs.HistoryLaws.{after_all-push, right_push}
 use Rattle.xdb_plain.specs.declared.note.Note.{Note}
 use Rattle.xdb_engine.specs.Notes.{is_fault, faults}
-use Rattle.xdb_engine.specs.Questions.{Asking}
+use Rattle.xdb_engine.specs.Questions.{Asking, FitsGiven}
 use Rattle.xdb_engine.specs.Seen.{Seen, plain_of, Adds}
-use Rattle.xdb_engine.specs.Stands.{Core, IsNumbered, IsQuiet, Agrees, Means, Stands}
+use Rattle.xdb_engine.specs.Stands.{Core, IsNumbered, Agrees, Means, Stands}
 
 -- ---- operations of groups
 
@@ -52,50 +52,14 @@ pub record Step {F : Type 0} (d : Core F) (p : Plain) (note : Note) : Type 0 whe
   pub means : Means d (after p note)
   pub calm : is_fault note.reply ≡ false
 
--- a state that has the same in what the parts speak of
-pub record IsAlike (p q : Plain) : Type 0 where
-  pub sealed : q.sealed ≡ p.sealed
-  pub active : q.active ≡ p.active
-  pub next : q.next ≡ p.next
-  pub file : q.file ≡ p.file
-  pub asked : q.asked ≡ p.asked
-  pub snaps : q.snaps ≡ p.snaps
-  pub cursors : q.cursors ≡ p.cursors
-  pub loads : q.loads ≡ p.loads
-  pub jobs : q.jobs ≡ p.jobs
-  pub known : q.known ≡ p.known
-  pub map : q.map ≡ p.map
-  pub questions : q.questions ≡ p.questions
-
-pub quiet-alike : (p q : Plain) → IsAlike p q → IsQuiet p → IsQuiet q
-quiet-alike p q same quiet = record {
-  no_snaps = same.snaps ∙ quiet.no_snaps;
-  no_cursors = same.cursors ∙ quiet.no_cursors;
-  no_loads = same.loads ∙ quiet.no_loads;
-  no_jobs = same.jobs ∙ quiet.no_jobs;
-  no_files = same.known ∙ quiet.no_files;
-}
-
-pub agrees-alike : {F : Type 0} (c : Core F) (p q : Plain) → IsAlike p q → Agrees c p → Agrees c q
-agrees-alike c p q same a = record {
-  sealed = same.sealed ∙ a.sealed;
-  active = same.active ∙ a.active;
-  next = same.next ∙ a.next;
-  file = same.file ∙ a.file;
-  asked = same.asked ∙ a.asked;
-  quiet = quiet-alike p q same a.quiet;
-  rising = a.rising;
-  above = a.above;
-  upto = a.upto;
-  ordered = a.ordered;
-  numbered = a.numbered;
-}
-
-pub means-alike : {F : Type 0} (c : Core F) (p q : Plain) → IsAlike p q → Means c p → Means c q
-means-alike c p q same m = record {
-  image = λ k. ap (λ x. get x k) same.map ∙ m.image k;
-  questions = m.questions ∙ sym same.questions;
-  clear = m.clear;
+-- a step that leaves the state, and the parts
+pub still-step : {F : Type 0} (c : Core F) (p : Plain) (note : Note) → Agrees c p → Means c p → MayStand p note → AnswersRight p note.act note.reply → is_fault note.reply ≡ false → after p note ≡ p → Step c p note
+still-step c p note a m stands answers calm same = record {
+  stands = stands;
+  answers = answers;
+  agrees = subst (Agrees c) (sym same) a;
+  means = subst (Means c) (sym same) m;
+  calm = calm;
 }
 
 -- ---- histories
@@ -168,6 +132,7 @@ opening-stands {F} seq file h s f none low high =
         image = λ k. get-empty _ k;
         questions = refl;
         clear = All-nil (λ q. IsClear (content q.given));
+        fits = All-nil FitsGiven;
       });
       booked = sym (ap faults none);
     }

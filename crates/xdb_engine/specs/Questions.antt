@@ -100,11 +100,23 @@ module _ {F : Type 0} where
   abbrev pub looked : Asking F → Story → Option ReadDone → Asking F
   looked q story kept = asking q.ask q.by q.parted q.given story kept
 
-  -- One look for the result, where none is kept: what is found is kept.
+  -- what is kept fits what was handed out
+  abbrev pub FitsGiven : Asking F → Type 0
+  FitsGiven q = IfSome q.kept (ReadFits q.given)
+
+  -- One look at the desk: what is found is kept, and fits.
+  pub record IsLook (q : Asking F) (old new : List (Asking F)) (found_it : Bool) : Type 0 where
+    pub story : Story
+    pub kept : Option ReadDone
+    pub leaves : new ≡ replaced (looked q story kept) old
+    pub look : Looks q.story (is_some kept) story
+    pub tells : found_it ≡ is_some kept
+    pub fits : IfSome kept (ReadFits q.given)
+
+  -- a look for the result, where none is kept
   abbrev pub LooksAt : Option ReadDone → Asking F → List (Asking F) → List (Asking F) → Bool → Type 0
   LooksAt (Some done) q old new found_it = (new ≡ old) × (found_it ≡ true)
-  LooksAt None q old new found_it =
-      (story : Story) × (kept : Option ReadDone) × (new ≡ replaced (looked q story kept) old) × Looks q.story (is_some kept) story × (found_it ≡ is_some kept)
+  LooksAt None q old new found_it = IsLook q old new found_it
 
   -- a look for the result of a number
   abbrev pub LooksFor : Option (Asking F) → List (Asking F) → List (Asking F) → Bool → Type 0

@@ -1,7 +1,7 @@
 -- What every engine keeps.
 use Rattle.std.specs.Prelude.{◌≡◌, ℕ, ◌<◌, ◌≤◌, ◌^◌, List, [], map, All, IsTrue}
 use Rattle.xdb_engine.specs.Notes.{faults}
-use Rattle.xdb_engine.specs.Questions.{Asking, heard}
+use Rattle.xdb_engine.specs.Questions.{Asking, heard, FitsGiven}
 use Rattle.xdb_history.specs.Recorded.{Recorded, state_of}
 use Rattle.xdb_mem.specs.Numbered.{RisesWithin}
 use Rattle.xdb_mem.specs.Parts.{items}
@@ -11,7 +11,7 @@ use Rattle.xdb_plain.specs.State.{Plain, opening}
 use Rattle.xdb_plain.specs.Steps.{is_client}
 use Rattle.xdb_rangedel.specs.Content.{IsImage, IsClear}
 use Rattle.xdb_read.specs.Fits.{content}
-use Rattle.xdb_vset.specs.Keyed.{IsRising}
+use Rattle.xdb_lists.specs.Keyed.{IsRising}
 
 -- its parts as plain data
 pub record Core (F : Type 0) : Type 0 where
@@ -59,6 +59,8 @@ pub record Means {F : Type 0} (c : Core F) (p : Plain) : Type 0 where
   -- what each open question's parts mean is its answer and its place
   pub questions : map heard c.questions ≡ p.questions
   pub clear : All (λ q. IsClear (content q.given)) c.questions
+  -- what is kept for a question fits what was handed out for it
+  pub fits : All FitsGiven c.questions
 
 pub record Stands {F : Type 0} (c : Core F) (h : Recorded) (book : ℕ) : Type 0 where
   pub right : Right (opening h.first_seq h.first_file) h.notes

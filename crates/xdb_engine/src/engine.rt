@@ -11,7 +11,7 @@ ghost use Rattle.xdb_plain.specs.declared.act.By.TheVariants.{Client, Db};
 ghost use Rattle.xdb_plain.specs.declared.reply.Reply.TheVariants as reply;
 ghost use Rattle.xdb_engine.specs.Asks.{IsAsked};
 ghost use Rattle.xdb_engine.specs.Notes.{plain_note, is_work, faults};
-ghost use Rattle.xdb_engine.specs.Questions.{found, without, replaced, looked, heard, failure, failure_leaves, settle_act, settle_reply, settle_leaves, LooksFor, found_by, is_kept};
+ghost use Rattle.xdb_engine.specs.Questions.{found, without, replaced, looked, heard, failure, failure_leaves, settle_act, settle_reply, settle_leaves, LooksFor, FitsGiven, found_by, is_kept};
 ghost use Rattle.xdb_engine.specs.Stands.{IsNumbered};
 ghost use Rattle.xdb_engine.specs.Seen.{plain_of, Adds, with_questions, lent, FitsQuestion, IsBrought};
 
@@ -119,6 +119,8 @@ impl<F: FileRef, L: Ledger> Engine<F, L> {
         ensures questions { map heard self.now.questions ≡ (plain_of self.now).questions }
         // Each has a number that was given, and was asked by a client.
         ensures numbered { All (IsNumbered (plain_of self.now).asked) self.now.questions }
+        // What is kept for one fits what was handed out for it.
+        ensures fits { All FitsGiven self.now.questions }
         ensures book { self.now.book ≡ faults self.now.notes }
     {
         self.history.notes()

@@ -70,6 +70,7 @@ impl<F: FileRef> OpenRead<F> {
         ensures same { self.new ≡ asking self.old.ask self.old.by self.old.parted self.old.given self.new.story self.new.kept }
         ensures stays { IsSome self.old.kept → self.new ≡ self.old }
         ensures look { self.old.kept ≡ None → Looks self.old.story (is_some self.new.kept) self.new.story }
+        ensures fits { IfSome self.new.kept (ReadFits self.old.given) }
     {
         if self.kept.is_none() {
             self.kept = self.desk.collect();

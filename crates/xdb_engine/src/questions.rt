@@ -3,7 +3,7 @@ ghost use Rattle.std.specs.Prelude.{◌≡◌, ◌<◌, IfSome, IsSome, Some, No
 ghost use Rattle.std.specs.Option.{option_copied};
 ghost use Rattle.xdb_plain.specs.declared.act.Act.TheVariants as act;
 ghost use Rattle.xdb_read.specs.Fits.{ReadFits};
-ghost use Rattle.xdb_vset.specs.Keyed.{IsRising};
+ghost use Rattle.xdb_lists.specs.Keyed.{IsRising};
 ghost use Rattle.xdb_engine.specs.Questions.{found, without, replaced, looked, IsPlaceOf, answer_act, answer_of, failure, failure_leaves, IsSettled, LooksFor, found_by};
 
 use crate::{Id, OpenRead};
@@ -153,7 +153,9 @@ pub fn bring<F: FileRef>(questions: &mut Vec<OpenRead<F>>, id: Id, done: ReadDon
     requires rising { IsRising (λ q. q.ask) questions.old.items }
     requires there { IsSome (found_by id questions.old.items) }
     requires fits { IfSome (found_by id questions.old.items) (λ q. ReadFits q.given done) }
-    ensures { IfSome (found_by id questions.old.items) (λ q. questions.new.items ≡ replaced (looked q q.story (Some done)) questions.old.items) }
+    ensures placed { IfSome (found_by id questions.old.items) (λ q. questions.new.items ≡ replaced (looked q q.story (Some done)) questions.old.items) }
+    // So that the caller has it of the result as it is kept.
+    ensures fits { IfSome (found_by id questions.old.items) (λ q. ReadFits q.given done) }
 {
     let Id::Ask(ask) = id else { unreachable!() };
     let Some(at) = place(questions, ask) else {

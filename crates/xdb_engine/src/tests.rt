@@ -1,11 +1,10 @@
-// What no clause says: that calls answer anything but want of memory where memory is ample, and that a delivered
-// result is found.
-ghost use Rattle.std.specs.Prelude.{◌≡◌, ◌+◌, ◌≤◌};
+// What no clause says: that calls answer anything but want of memory where memory is ample, that a delivered result
+// is found, and that some thousand calls leave no more room than is needed.
+ghost use Rattle.std.specs.Prelude.{◌≡◌, ◌+◌, ◌≤◌, ◌^◌};
 
 use crate::{Engine, Id};
 use std::alloc::Global;
 use std::marker::Brand;
-use std::process::Abort;
 use std::sync::ledger::{Blank, Ledger};
 use std::test::Fail;
 use xdb_batch::Batch;
@@ -15,175 +14,267 @@ use xdb_order::Hand;
 use xdb_plain::{Act, Answer, CommitForm, Question, Reply};
 use xdb_read::{ReadWork, answer};
 
-fn key(alloc: Global, text: &str) -> Result<Key, Fail> {
-    Ok(Key::new(text.as_bytes().to_vec(alloc)?)?)
+/// A reply without what it owns; of a value its first byte.
+#[derive(Clone, Copy, Debug, PartialEq, Eq)]
+enum Told {
+    Done,
+    Spent,
+    Nothing,
+    Group(u64),
+    Asked(u64),
+    TooMany,
+    NotYet,
+    NoSuch,
+    Value(u8),
+    Memory,
+    Other,
 }
 
-/// So many sets of the key, to the values 1, 2 and so on.
-fn sets(alloc: Global, text: &str, count: u8) -> Result<Batch, Fail> {
+fn kind_of(reply: &Reply) -> Told {
+    match reply {
+        Reply::Done => Told::Done,
+        Reply::Spent => Told::Spent,
+        Reply::Nothing => Told::Nothing,
+        Reply::Group(group) => Told::Group(*group),
+        Reply::Asked(ask) => Told::Asked(*ask),
+        Reply::TooMany => Told::TooMany,
+        Reply::NotYet => Told::NotYet,
+        Reply::NoSuch => Told::NoSuch,
+        Reply::Memory => Told::Memory,
+        Reply::Answered(Answer::Value(value)) => match value.bytes() {
+            [first, ..] => Told::Value(*first),
+            [] => Told::Other,
+        },
+        _ => Told::Other,
+    }
+}
+
+/// The key of two bytes.
+fn key(alloc: Global, number: u16) -> Result<Key, Fail> {
+    Ok(Key::new(number.to_be_bytes().to_vec(alloc)?)?)
+}
+
+/// So many sets of the key, to the values `1`, `2` and so on.
+fn sets(alloc: Global, number: u16, count: u8) -> Result<Batch, Fail> {
     let mut batch = Batch::new(alloc);
     for value in 0..count {
-        batch.set(key(alloc, text)?, [b'1' + value % 9].to_vec(alloc)?)?;
+        batch.set(key(alloc, number)?, [b'1' + value % 9].to_vec(alloc)?)?;
     }
     Ok(batch)
 }
 
-fn get(alloc: Global, text: &str) -> Result<Question, Fail> {
-    Ok(Question::Get {
-        key: key(alloc, text)?,
-        at: None,
-    })
+fn commit<L: Ledger>(
+    alloc: Global,
+    engine: &mut Engine<MemFile, L>,
+    number: u16,
+    count: u8,
+) -> Result<Told, Fail>
+    requires { 1 ≤ engine.old.spare }
+    ensures { engine.old.spare ≤ engine.new.spare + 1 }
+{
+    let batch = sets(alloc, number, count)?;
+    Ok(kind_of(&engine.commit(1, CommitForm::Batch, batch)))
 }
 
-/// An engine with the last sequence number but none beyond.
-fn last_numbers<L: Ledger>(rt: &impl Abort, alloc: Global, book: FaultBook<L>) -> Result<(), Fail>
-    requires { book ≡ 0 }
+fn settle<L: Ledger>(engine: &mut Engine<MemFile, L>, ask: u64) -> Told
+    requires { 1 ≤ engine.old.spare }
+    ensures { engine.old.spare ≤ engine.new.spare + 1 }
 {
-    let mut engine: Engine<MemFile, L> = Engine::new(alloc, (1 << 56) - 1, 1, book);
-    engine.ready()?;
-    let two = engine.commit(1, CommitForm::Batch, sets(alloc, "a", 2)?);
-    assert!(rt; matches!(two, Reply::Spent));
-    let one = engine.commit(1, CommitForm::Put, sets(alloc, "a", 1)?);
-    assert!(rt; matches!(one, Reply::Done));
-    let more = engine.commit(1, CommitForm::Put, sets(alloc, "a", 1)?);
-    assert!(rt; matches!(more, Reply::Spent));
-    assert!(rt; engine.notes().len() == 3);
+    kind_of(&engine.settle(2, ask))
+}
+
+/// What a question for the key replies, and its hand.
+fn ask<L: Ledger>(
+    alloc: Global,
+    engine: &mut Engine<MemFile, L>,
+    number: u16,
+) -> Result<(Told, Option<Hand<ReadWork<MemFile>>>), Fail>
+    requires { 1 ≤ engine.old.spare }
+    ensures { engine.old.spare ≤ engine.new.spare + 1 }
+{
+    let question = Question::Get {
+        key: key(alloc, number)?,
+        at: None,
+    };
+    let (reply, hand) = engine.ask(1, question, true);
+    Ok((kind_of(&reply), hand))
+}
+
+fn deliver(alloc: Global, hand: Hand<ReadWork<MemFile>>) -> Result<(), Fail> {
+    let done = answer(alloc, hand.given())?;
+    hand.deliver(done);
     Ok(())
 }
 
-fn is_value(reply: &Reply, value: &[u8]) -> bool {
-    match reply {
-        Reply::Answered(Answer::Value(found)) => found.bytes() == value,
-        _ => false,
+/// The last sequence number is there, and none beyond.
+fn last_numbers<L: Ledger>(alloc: Global, engine: &mut Engine<MemFile, L>) -> Result<bool, Fail> {
+    for (count, reply) in [(2, Told::Spent), (1, Told::Done), (1, Told::Spent)] {
+        engine.ready()?;
+        if commit(alloc, engine, 1, count)? != reply {
+            return Ok(false);
+        }
     }
+    Ok(engine.notes().len() == 3)
+}
+
+fn seals<L: Ledger>(alloc: Global, engine: &mut Engine<MemFile, L>) -> Result<bool, Fail> {
+    engine.ready()?;
+    let empty = kind_of(&engine.seal());
+    let done = commit(alloc, engine, 1, 1)?;
+    let held = engine.active_ops();
+    Ok(
+        empty == Told::Nothing
+            && done == Told::Done
+            && held == 1
+            && kind_of(&engine.seal()) == Told::Group(1)
+            && engine.active_group() == 2
+            && engine.active_ops() == 0,
+    )
 }
 
 /// The question's answer is found at its desk, and is that of the asking.
-fn settle_later<L: Ledger>(
-    rt: &impl Abort,
+fn asked_before<L: Ledger>(alloc: Global, engine: &mut Engine<MemFile, L>) -> Result<bool, Fail> {
+    engine.ready()?;
+    commit(alloc, engine, 1, 1)?;
+    match ask(alloc, engine, 1)? {
+        (Told::Asked(1), Some(hand)) => settled_behind(alloc, engine, hand),
+        _ => Ok(false),
+    }
+}
+
+fn settled_behind<L: Ledger>(
     alloc: Global,
     engine: &mut Engine<MemFile, L>,
     hand: Hand<ReadWork<MemFile>>,
-) -> Result<(), Fail>
-    requires { 4 ≤ engine.old.spare }
-{
-    assert!(rt; matches!(engine.settle(1, 1), Reply::NotYet));
-    let done = answer(alloc, hand.given())?;
-    hand.deliver(done);
-    assert!(rt; engine.arrived(Id::Ask(1)), "a delivered answer is found");
-    assert!(rt; is_value(&engine.settle(2, 1), b"1"));
-    assert!(rt; matches!(engine.settle(1, 1), Reply::NoSuch));
-    Ok(())
+) -> Result<bool, Fail> {
+    engine.ready()?;
+    commit(alloc, engine, 1, 2)?;
+    let early = settle(engine, 1);
+    deliver(alloc, hand)?;
+    Ok(
+        early == Told::NotYet
+            && engine.arrived(Id::Ask(1))
+            && settle(engine, 1) == Told::Value(b'1')
+            && settle(engine, 1) == Told::NoSuch,
+    )
 }
 
-fn ask_and_settle<L: Ledger>(rt: &impl Abort, alloc: Global, book: FaultBook<L>) -> Result<(), Fail>
-    requires { book ≡ 0 }
-{
-    let mut engine: Engine<MemFile, L> = Engine::new(alloc, 1, 1, book);
+/// A question ends for want of memory, and none is there for what was never asked.
+fn lack<L: Ledger>(alloc: Global, engine: &mut Engine<MemFile, L>) -> Result<bool, Fail> {
     engine.ready()?;
-    engine.commit(1, CommitForm::Put, sets(alloc, "c", 1)?);
-    let (reply, hand) = engine.ask(1, get(alloc, "c")?, true);
-    assert!(rt; matches!(reply, Reply::Asked(1)));
-    engine.commit(1, CommitForm::Batch, sets(alloc, "c", 2)?);
-    engine.ready()?;
-    match hand {
-        Some(hand) => settle_later(rt, alloc, &mut engine, hand),
-        None => Err(Fail::from("no hand")),
+    let (asked, _hand) = ask(alloc, engine, 1)?;
+    Ok(
+        asked == Told::Asked(1)
+            && engine.reserved(&Id::Ask(1)).is_some()
+            && kind_of(&engine.lack(Id::Ask(1), Vec::new(alloc))) == Told::Memory
+            && kind_of(&engine.no_such(Act::Work { ask: 1 })) == Told::NoSuch
+            && engine.given(&Id::Ask(1)).is_none()
+            && engine.fence_on(&[]).is_none(),
+    )
+}
+
+/// Some thousand commits, questions and answers. At the end no question is open, and the notes have at most
+/// about twice the room that they need.
+fn thousands<L: Ledger>(alloc: Global, engine: &mut Engine<MemFile, L>) -> Result<bool, Fail> {
+    for turn in 1..=1000 {
+        if !turn_is_right(alloc, engine, turn)? {
+            return Ok(false);
+        }
     }
+    Ok(
+        engine.notes().len() == 3 * 1000
+            && engine.spare() <= 3 * 1000 + 64
+            && engine.active_ops() == 1000
+            && engine.given(&Id::Ask(1000)).is_none(),
+    )
 }
 
-fn seal_groups<L: Ledger>(rt: &impl Abort, alloc: Global, book: FaultBook<L>) -> Result<(), Fail>
-    requires { book ≡ 0 }
-{
-    let mut engine: Engine<MemFile, L> = Engine::new(alloc, 1, 1, book);
+/// A commit, and a question for what it set.
+fn turn_is_right<L: Ledger>(
+    alloc: Global,
+    engine: &mut Engine<MemFile, L>,
+    turn: u16,
+) -> Result<bool, Fail> {
     engine.ready()?;
-    assert!(rt; matches!(engine.seal(), Reply::Nothing));
-    engine.commit(1, CommitForm::Put, sets(alloc, "c", 1)?);
-    assert!(rt; engine.active_ops() == 1);
-    assert!(rt; matches!(engine.seal(), Reply::Group(1)));
-    assert!(rt; engine.active_group() == 2);
-    Ok(())
-}
-
-/// A read that isn't in parts ends for want of memory.
-fn lack<L: Ledger>(rt: &impl Abort, alloc: Global, book: FaultBook<L>) -> Result<(), Fail>
-    requires { book ≡ 0 }
-{
-    let mut engine: Engine<MemFile, L> = Engine::new(alloc, 1, 1, book);
-    engine.ready()?;
-    let (_, hand) = engine.ask(1, get(alloc, "c")?, false);
-    assert!(rt; hand.is_some());
-    if engine.reserved(&Id::Ask(1)).is_some() {
-        let lack = engine.lack(Id::Ask(1), Vec::new(alloc));
-        assert!(rt; matches!(lack, Reply::Memory));
+    commit(alloc, engine, turn, 1)?;
+    let number = u64::from(turn);
+    match ask(alloc, engine, turn)? {
+        (Told::Asked(asked), Some(hand)) if asked == number => deliver(alloc, hand)?,
+        _ => return Ok(false),
     }
-    Ok(())
+    Ok(engine.arrived(Id::Ask(number)) && settle(engine, number) == Told::Value(b'1'))
 }
 
-/// There is no work, and no load.
-fn nothing<L: Ledger>(rt: &impl Abort, alloc: Global, book: FaultBook<L>) -> Result<(), Fail>
-    requires { book ≡ 0 }
-{
-    let mut engine: Engine<MemFile, L> = Engine::new(alloc, 1, 1, book);
+/// As many questions as may be open, and one more.
+fn most_questions<L: Ledger>(alloc: Global, engine: &mut Engine<MemFile, L>) -> Result<bool, Fail> {
+    for number in 1..=64 {
+        engine.ready()?;
+        if ask(alloc, engine, 1)?.0 != Told::Asked(number) {
+            return Ok(false);
+        }
+    }
     engine.ready()?;
-    let no_such = engine.no_such(Act::Work { ask: 7 });
-    assert!(rt; matches!(no_such, Reply::NoSuch));
-    assert!(rt; engine.given(&Id::Ask(7)).is_none());
-    assert!(rt; engine.fence_on(&[]).is_none());
-    Ok(())
+    Ok(ask(alloc, engine, 1)?.0 == Told::TooMany)
 }
 
-/// So that each test has a book of its own.
-#[derive(Clone, Copy)]
+/// What is played on an engine of its own, and its first sequence number.
+#[derive(Clone, Copy, Debug)]
 enum Scene {
     LastNumbers,
-    AskAndSettle,
-    SealGroups,
+    Seals,
+    AskedBefore,
     Lack,
-    Nothing,
+    Thousands,
+    MostQuestions,
 }
 
-fn with_book<L: Ledger>(
-    rt: &impl Abort,
+fn first_number(scene: Scene) -> u64
+    ensures low { 1 ≤ result }
+    ensures high { result ≤ 2 ^ 56 }
+{
+    match scene {
+        Scene::LastNumbers => (1 << 56) - 1,
+        _ => 1,
+    }
+}
+
+fn play<L: Ledger>(
     alloc: Global,
-    blank: Blank,
+    engine: &mut Engine<MemFile, L>,
     scene: Scene,
-) -> Result<(), Fail>
+) -> Result<bool, Fail> {
+    match scene {
+        Scene::LastNumbers => last_numbers(alloc, engine),
+        Scene::Seals => seals(alloc, engine),
+        Scene::AskedBefore => asked_before(alloc, engine),
+        Scene::Lack => lack(alloc, engine),
+        Scene::Thousands => thousands(alloc, engine),
+        Scene::MostQuestions => most_questions(alloc, engine),
+    }
+}
+
+fn plays<L: Ledger>(alloc: Global, blank: Blank, scene: Scene) -> Result<bool, Fail>
     requires name { blank.name ≡ L.name }
     requires parts { blank.parts ≡ L.parts }
     requires one { blank.parts ≡ 1 }
 {
     let (book, _shares) = FaultBook::<L>::split(alloc, blank, 1)?;
-    match scene {
-        Scene::LastNumbers => last_numbers(rt, alloc, book),
-        Scene::AskAndSettle => ask_and_settle(rt, alloc, book),
-        Scene::SealGroups => seal_groups(rt, alloc, book),
-        Scene::Lack => lack(rt, alloc, book),
-        Scene::Nothing => nothing(rt, alloc, book),
+    let mut engine: Engine<MemFile, L> = Engine::new(alloc, first_number(scene), 1, book);
+    play(alloc, &mut engine, scene)
+}
+
+#[test]
+fn each_scene_is_right(rt: HostRuntime) -> Result<(), Fail> {
+    for scene in [
+        Scene::LastNumbers,
+        Scene::Seals,
+        Scene::AskedBefore,
+        Scene::Lack,
+        Scene::MostQuestions,
+        Scene::Thousands,
+    ] {
+        let right = plays::<Brand>(rt.alloc(), Blank::new(1), scene)?;
+        assert!(rt; right, "scene {scene:?}");
     }
-}
-
-#[test]
-fn numbers_end_at_two_to_the_56(rt: HostRuntime) -> Result<(), Fail> {
-    with_book::<Brand>(&rt, rt.alloc(), Blank::new(1), Scene::LastNumbers)
-}
-
-#[test]
-fn an_answer_is_that_of_its_asking(rt: HostRuntime) -> Result<(), Fail> {
-    with_book::<Brand>(&rt, rt.alloc(), Blank::new(1), Scene::AskAndSettle)
-}
-
-#[test]
-fn groups_are_sealed(rt: HostRuntime) -> Result<(), Fail> {
-    with_book::<Brand>(&rt, rt.alloc(), Blank::new(1), Scene::SealGroups)
-}
-
-#[test]
-fn a_read_without_memory_ends(rt: HostRuntime) -> Result<(), Fail> {
-    with_book::<Brand>(&rt, rt.alloc(), Blank::new(1), Scene::Lack)
-}
-
-#[test]
-fn there_is_no_such_work(rt: HostRuntime) -> Result<(), Fail> {
-    with_book::<Brand>(&rt, rt.alloc(), Blank::new(1), Scene::Nothing)
+    Ok(())
 }

@@ -47,10 +47,15 @@ append-kind : (gs more : List Group) (kind : JobKind) → FlushesOldest gs kind 
 append-kind gs more (flush_of group) is = append-oldest gs more group is
 append-kind gs more (compaction_of c) is = tt
 
+-- a group more behind the others leaves the oldest
+behind-oldest : (gs : List Group) (g : Group) (t : Bool) (jobs : List Job) → AllByRecursion (λ j. FlushesOldest gs j.kind) jobs → AllByRecursion (λ j. FlushesOldest (cond t (gs ++ g ∷ []) gs) j.kind) jobs
+behind-oldest gs g true jobs all = all-more (λ (j : Job). FlushesOldest gs j.kind) _ jobs (λ j oldest. append-kind gs (g ∷ []) j.kind oldest) all
+behind-oldest gs g false jobs all = all
+
 stays-oldest : (p : Plain) (a : Act) (o : Outcome) (jobs : List Job) → is_flushed p a o ≡ false → AllByRecursion (λ j. FlushesOldest p.sealed j.kind) jobs → AllByRecursion (λ j. FlushesOldest (sealed_after p a o) j.kind) jobs
 stays-oldest p a o jobs is all =
-    subst (λ t. AllByRecursion (λ j. FlushesOldest (cond t (drop 1 p.sealed) p.sealed ++ cond (is_sealed p a o) (p.active ∷ []) []) j.kind) jobs) (sym is)
-    (all-more (λ (j : Job). FlushesOldest p.sealed j.kind) _ jobs (λ j oldest. append-kind p.sealed (cond (is_sealed p a o) (p.active ∷ []) []) j.kind oldest) all)
+    subst (λ t. AllByRecursion (λ j. FlushesOldest (cond (is_sealed p a o) (cond t (drop 1 p.sealed) p.sealed ++ p.active ∷ []) (cond t (drop 1 p.sealed) p.sealed)) j.kind) jobs) (sym is)
+    (behind-oldest p.sealed p.active (is_sealed p a o) jobs all)
 
 no-flush : (sealed : List Group) (kind : JobKind) → is_flush kind ≡ false → FlushesOldest sealed kind
 no-flush sealed (flush_of group) is = absurd (false≢true (sym is))

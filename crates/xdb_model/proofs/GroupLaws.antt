@@ -1,5 +1,5 @@
 -- Groups are numbered one after the other, and sealed ones hold operations.
-use Rattle.std.proofs.Common.{◌≡◌, ℕ, ◌+◌, ◌≤◌, Bool, true, false, cond, ◌||◌, List, [], ◌∷◌, ◌++◌, drop, Option, is_none, refl, sym, ap, subst, ◌∙◌, arith}
+use Rattle.std.proofs.Common.{◌≡◌, ℕ, ◌+◌, ◌≤◌, Bool, true, false, cond, ◌||◌, List, [], ◌∷◌, ◌++◌, drop, Option, is_none, refl, sym, ap, ◌∙◌, arith}
 use Rattle.std.proofs.lemmas.Bool.{false≢true, and_parts}
 use Rattle.std.specs.List.{list_any, AllByRecursion}
 use Rattle.xdb_key.specs.Groups.{Group, group_touches}
@@ -51,14 +51,6 @@ all-less : {X : Type 0} (P : X → Type 0) (xs : List X) → AllByRecursion P xs
 all-less P [] h = tt
 all-less P (x ∷ xs) h = h.1
 
-all-none : {X : Type 0} (P : X → Type 0) (xs : List X) → AllByRecursion P xs → AllByRecursion P (xs ++ [])
-all-none P [] h = tt
-all-none P (x ∷ xs) h = (h.0, all-none P xs h.1)
-
-none-behind : {X : Type 0} (xs : List X) → xs ++ [] ≡ xs
-none-behind [] = refl
-none-behind (x ∷ xs) = ap (λ ys. x ∷ ys) (none-behind xs)
-
 -- ---- what is sealed holds operations
 
 nothing-stays : (r : Reply) → same_reply r reply.Nothing ≡ true → outcome r ≡ stays
@@ -96,20 +88,20 @@ sealed-filled p by _ r may sealed = absurd (false≢true sealed)
 
 -- ---- the step
 
-step-at : (gs : List Group) (active : Group) (ops : List (ℕ × Op)) (sealed : Bool) → Counted (gs ++ active ∷ []) → Counted ((gs ++ cond sealed (active ∷ []) []) ++ cond sealed (group_of (active.num + 1) []) (group_of active.num ops) ∷ [])
+step-at : (gs : List Group) (active : Group) (ops : List (ℕ × Op)) (sealed : Bool) → Counted (gs ++ active ∷ []) → Counted (cond sealed (gs ++ active ∷ []) gs ++ cond sealed (group_of (active.num + 1) []) (group_of active.num ops) ∷ [])
 step-at gs active ops true h = record { first = h.first; from = h.from; counted = counted-more h.first gs active h.counted }
-step-at gs active ops false h =
-    record { first = h.first; from = h.from; counted = subst (λ xs. AreCounted h.first (xs ++ group_of active.num ops ∷ [])) (sym (none-behind gs)) (counted-same h.first gs active (group_of active.num ops) refl h.counted) }
+step-at gs active ops false h = record { first = h.first; from = h.from; counted = counted-same h.first gs active (group_of active.num ops) refl h.counted }
 
 flush-at : (gs : List Group) (active : Group) (flushed : Bool) → Counted (gs ++ active ∷ []) → Counted (cond flushed (drop 1 gs) gs ++ active ∷ [])
 flush-at gs active true h = counted-less h.first gs active h.from h.counted
 flush-at gs active false h = h
 
-filled-at : (gs : List Group) (active : Group) (flushed sealed : Bool) → AllByRecursion HoldsOperations gs → (sealed ≡ true → HoldsOperations active) → AllByRecursion HoldsOperations (cond flushed (drop 1 gs) gs ++ cond sealed (active ∷ []) [])
+filled-at : (gs : List Group) (active : Group) (flushed sealed : Bool) → AllByRecursion HoldsOperations gs → (sealed ≡ true → HoldsOperations active)
+    → AllByRecursion HoldsOperations (cond sealed (cond flushed (drop 1 gs) gs ++ active ∷ []) (cond flushed (drop 1 gs) gs))
 filled-at gs active true true h is = all-push HoldsOperations (drop 1 gs) active (all-less HoldsOperations gs h) (is refl)
 filled-at gs active false true h is = all-push HoldsOperations gs active h (is refl)
-filled-at gs active true false h is = all-none HoldsOperations (drop 1 gs) (all-less HoldsOperations gs h)
-filled-at gs active false false h is = all-none HoldsOperations gs h
+filled-at gs active true false h is = all-less HoldsOperations gs h
+filled-at gs active false false h is = h
 
 groups-step : (p : Plain) (note : Note) → MayStand p note → GroupsFit p → GroupsFit (after p note)
 groups-step p note may fit =

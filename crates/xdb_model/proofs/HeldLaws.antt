@@ -4,13 +4,14 @@ use Rattle.std.specs.List.{AllByRecursion, filter_map, cons_option}
 use Rattle.xdb_edit.specs.Changes.{Changes}
 use Rattle.xdb_plain.specs.Changes.{after}
 use Rattle.xdb_plain.specs.Counts.{is_among, same_holder, found_hold}
-use Rattle.xdb_plain.specs.Holds.{version_after, held_by, snap_version, version_at, question_version, Due, due, turning, holds_due, numbered, holds_after, taken_ids, released_ids}
+use Rattle.xdb_plain.specs.Holds.{version_after, held_by, snap_version, version_at, question_version, Due, due, turning, holds_due, numbered, holds_told, holds_after, taken_ids, released_ids}
 use Rattle.xdb_plain.specs.Legal.{after_all}
 use Rattle.xdb_plain.specs.Outcomes.{Outcome, succeeds, begins, outcome, groups_after, is_put_of_flush}
 use Rattle.xdb_plain.specs.Snapshots.{is_file_only, turns, first_state}
 use Rattle.xdb_plain.specs.State.{Plain, Snapshot, Version, Hold, Holder, for_snap, for_cursor, opening, found_snap, groups}
 use Rattle.xdb_plain.specs.declared.act.Act.{Act}
 use Rattle.xdb_plain.specs.declared.act.Act.TheVariants as act
+use Rattle.xdb_plain.specs.declared.note.HoldNote.{HoldNote}
 use Rattle.xdb_plain.specs.declared.note.Note.{Note}
 use Rattle.xdb_plain.specs.declared.question.Question.{Question}
 use Rattle.xdb_plain.specs.declared.question.Question.TheVariants.{Get, Scan, RScan, Move}
@@ -82,11 +83,16 @@ module _ (P : Version → Type 0) (p : Plain) (current : P p.current) (holds : A
   numbered-all (id ∷ ids) [] all = tt
   numbered-all (id ∷ ids) (d ∷ dues) all = (all.0, numbered-all ids dues all.1)
 
+  told-all : (told : List HoldNote) (dues : List Due) → Dues dues → AllByRecursion (λ (h : Hold). P h.version) (holds_told p.holds told dues)
+  told-all [] dues all = holds
+  told-all (n ∷ ns) dues all =
+      all-append (λ (h : Hold). P h.version) (filter (λ (h : Hold). not (is_among h.id (released_ids (n ∷ ns)))) p.holds) _
+      (all-filtered (λ (h : Hold). P h.version) (λ (h : Hold). not (is_among h.id (released_ids (n ∷ ns)))) p.holds (λ h has left. all-has (λ (x : Hold). P x.version) p.holds h has holds))
+      (numbered-all (taken_ids (n ∷ ns)) dues all)
+
   pub holds-step : (note : Note) → P (version_after p.current note.edit) → AllByRecursion (λ (h : Hold). P h.version) (holds_after p note)
   holds-step note next =
-      all-append (λ (h : Hold). P h.version) (filter (λ (h : Hold). not (is_among h.id (released_ids note.holds))) p.holds) _
-      (all-filtered (λ (h : Hold). P h.version) (λ (h : Hold). not (is_among h.id (released_ids note.holds))) p.holds (λ h has left. all-has (λ (x : Hold). P x.version) p.holds h has holds))
-      (numbered-all (taken_ids note.holds) (holds_due p note.act (outcome note.reply) note.edit) (dues-all note.act (outcome note.reply) note.edit next))
+      told-all note.holds (holds_due p note.act (outcome note.reply) note.edit) (dues-all note.act (outcome note.reply) note.edit next)
 
 -- ---- over a whole history
 

@@ -86,9 +86,12 @@ abbrev pub is_flushed : Plain → Act → Outcome → Bool
 is_flushed p (act.Put job) succeeds = is_put_of_flush p job
 is_flushed p _ _ = false
 
+-- the sealed groups that a step leaves, and with them the active one where it is sealed
+abbrev pub sealed_left : Plain → Act → Outcome → List Group
+sealed_left p a o = if is_flushed p a o then drop 1 p.sealed else p.sealed
+
 abbrev pub sealed_after : Plain → Act → Outcome → List Group
-sealed_after p a o =
-    (if is_flushed p a o then drop 1 p.sealed else p.sealed) ++ (if is_sealed p a o then p.active ∷ [] else [])
+sealed_after p a o = if is_sealed p a o then sealed_left p a o ++ p.active ∷ [] else sealed_left p a o
 
 -- the operations with their numbers, from one on
 abbrev pub active_ops_after : Plain → Act → Outcome → List (ℕ × Op)

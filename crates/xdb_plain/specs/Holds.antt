@@ -127,8 +127,12 @@ pub record HoldsFit (p : Plain) (note : Note) : Type 0 where
   pub all : length (taken_ids note.holds) ≡ length (holds_due p note.act (outcome note.reply) note.edit)
   pub new : IsTrue (are_new p.holds (taken_ids note.holds))
 
+-- the open holds without those that are told to be let go, and with those that are told to be taken
+abbrev pub holds_told : List Hold → List HoldNote → List Due → List Hold
+holds_told holds [] dues = holds
+holds_told holds told dues =
+    filter (λ h. not (is_among h.id (released_ids told))) holds ++ numbered (taken_ids told) dues
+
 -- the open holds after a note, as it tells them
 abbrev pub holds_after : Plain → Note → List Hold
-holds_after p note =
-    filter (λ h. not (is_among h.id (released_ids note.holds))) p.holds
-    ++ numbered (taken_ids note.holds) (holds_due p note.act (outcome note.reply) note.edit)
+holds_after p note = holds_told p.holds note.holds (holds_due p note.act (outcome note.reply) note.edit)

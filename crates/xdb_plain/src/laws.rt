@@ -2,6 +2,8 @@
 ghost use Rattle.std.specs.Prelude.{◌≡◌, ◌++◌, ◌∷◌, [], ℕ, List, true, false};
 ghost use Rattle.xdb_plain.specs.State.{Plain, opening};
 ghost use Rattle.xdb_plain.specs.Changes.{after};
+ghost use Rattle.xdb_plain.specs.Holds.{HoldsFit};
+ghost use Rattle.xdb_plain.specs.Outcomes.{stays, outcome, is_refused};
 ghost use Rattle.xdb_plain.specs.Steps.{MayStand};
 ghost use Rattle.xdb_plain.specs.Legal.{after_all, Legal, Right, AnswersRight};
 ghost use Rattle.xdb_plain.specs.Replies.{same_by};
@@ -45,4 +47,11 @@ pub fn part_goes_on()
         → notes_by by (notes ++ note ∷ []) ≡ notes_by by notes ++ note ∷ [] }
     ensures other { (by : By) (notes : List Note) (note : Note) → same_by note.by by ≡ false
         → notes_by by (notes ++ note ∷ []) ≡ notes_by by notes }
+{}
+
+/// A step that was refused, or failed with nothing to end, leaves the state as it was.
+pub fn refused_steps_change_nothing()
+    ensures same { (p : Plain) (note : Note) → MayStand p note → note.holds ≡ []
+        → is_refused p note.act (outcome note.reply) ≡ true → after p note ≡ p }
+    ensures no_holds { (p : Plain) (note : Note) → HoldsFit p note → outcome note.reply ≡ stays → note.holds ≡ [] }
 {}

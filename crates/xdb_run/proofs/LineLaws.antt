@@ -3,7 +3,7 @@ use Rattle.std.proofs.Common.{◌≡◌, ℕ, ◌+◌, ◌≤◌, Bool, true, fa
 use Rattle.std.specs.List.{All}
 use Rattle.std.proofs.lemmas.Bool.{cases_Bool, eqb-true, eq-eqb, or_left, or_right, or_cases, false≢true}
 use Rattle.std.proofs.lemmas.List.Elements.{All-filter}
-use Rattle.xdb_engine.proofs.ListLaws.{under-number, under-all}
+use Rattle.xdb_lists.proofs.PlaceLaws.{under-number, under-all, all-placed}
 use Rattle.xdb_engine.specs.Notes.{plain_note}
 use Rattle.xdb_engine.specs.Questions.{Asking, found, without, replaced, looked, answer_of, answer_act, settle_act, settle_reply, settle_leaves, failure, failure_by, failure_act, failure_leaves}
 use Rattle.std.specs.declared.alloc.AllocError.{AllocError}
@@ -25,7 +25,6 @@ use Rattle.xdb_plain.specs.declared.reply.Reply.TheVariants as reply
 use Rattle.xdb_plain.specs.declared.script.Cmd.TheVariants as cmd
 use Rattle.xdb_read.specs.declared.parts.ReadDone.{ReadDone}
 use Rattle.xdb_run.specs.Running.{Awaits, IsAt, Takes, IsHeard, IsWorkedOn}
-use Rattle.xdb_run.proofs.ListLaws.{all-placed}
 use Rattle.xdb_run.proofs.StateLaws.{one-takes, takes-roomy, waiting, awaits, waits-by, among-pushed}
 
 -- ---- numbers of questions that were worked on

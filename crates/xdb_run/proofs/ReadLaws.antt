@@ -3,7 +3,7 @@ use Rattle.std.proofs.Common.{◌≡◌, ℕ, ◌+◌, ◌<◌, ◌≤◌, Bool,
 use Rattle.std.specs.List.{All}
 use Rattle.std.proofs.lemmas.Bool.{cases_Bool, eq-eqb, false≢true}
 use Rattle.std.proofs.lemmas.List.Elements.{All-push}
-use Rattle.xdb_engine.proofs.ListLaws.{under-none}
+use Rattle.xdb_lists.proofs.PlaceLaws.{under-none, under-pushed, under-placed, all-placed, all-others}
 use Rattle.xdb_engine.specs.Asks.{Opens, Leaves, IsAsked}
 use Rattle.xdb_engine.specs.Notes.{plain_note}
 use Rattle.xdb_engine.specs.Questions.{Asking, asking, found, without, replaced, looked, settle_act, settle_reply, settle_leaves, failure, failure_leaves}
@@ -25,7 +25,6 @@ use Rattle.xdb_plain.specs.declared.script.Cmd.TheVariants as cmd
 use Rattle.xdb_read.specs.declared.parts.ReadDone.{ReadDone}
 use Rattle.xdb_read.specs.declared.parts.ReadParts.{ReadParts}
 use Rattle.xdb_run.specs.Running.{Awaits, IsAt, Takes, IsHeard}
-use Rattle.xdb_run.proofs.ListLaws.{under-pushed, under-placed, all-placed, all-others}
 use Rattle.xdb_run.proofs.StateLaws.{one-takes, two-take, takes-roomy}
 
 -- a number above all that were given isn't among those worked on

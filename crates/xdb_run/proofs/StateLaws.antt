@@ -4,7 +4,7 @@ use Rattle.std.specs.List.{All, list_all}
 use Rattle.std.proofs.lemmas.Bool.{and_parts}
 use Rattle.std.proofs.lemmas.List.{reverse-append, reverse-reverse}
 use Rattle.std.proofs.lemmas.List.Folds.{list_any-append, list_all-append}
-use Rattle.xdb_engine.proofs.ListLaws.{under-number, under-all}
+use Rattle.xdb_lists.proofs.PlaceLaws.{under-number, under-all}
 use Rattle.xdb_engine.proofs.QuestionLaws.{found-plain}
 use Rattle.xdb_engine.specs.Notes.{plain_note}
 use Rattle.xdb_engine.specs.Questions.{Asking, found, heard}

@@ -2,7 +2,7 @@
 use Rattle.std.proofs.Common.{rules, ◌≡◌}
 use Rattle.std.specs.Ordering.{nat_cmp}
 use Rattle.std.proofs.lemmas.Fn.{always_returns_same}
-use Rattle.xdb_vset.proofs.KeyLaws.{key_sought, key_missing}
+use Rattle.xdb_lists.proofs.KeyLaws.{key_sought, key_missing}
 use Rattle.xdb_engine.proofs.questions.place.Goals as goal
 
 pub returns-in-Ok : goal.returns-in-Ok
