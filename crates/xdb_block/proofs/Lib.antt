@@ -1,8 +1,9 @@
 pub mod Numbers
 pub mod Ranges
 pub mod RowLaws
-pub mod Loop
 pub mod EntryLaws
+pub mod KeysLaws
+pub mod Loop
 pub mod BlockRows
 pub mod OffsetLaws
 pub mod BlockLaws

@@ -10,8 +10,9 @@ use Rattle.xdb_block.specs.declared.kind.BlockNo.{BlockNo}
 use Rattle.xdb_block.specs.declared.kind.BlockNo.TheVariants.{Damaged, Memory}
 use Rattle.xdb_block.specs.declared.place.Place.{Place}
 use Rattle.xdb_block.specs.declared.rows.Rows.{Rows}
-use Rattle.xdb_block.specs.Kept.{row_of, rows_of, Lies}
+use Rattle.xdb_block.specs.Kept.{row_of, rows_of, keys_size, Lies}
 use Rattle.xdb_block.specs.Reading.{IsDefect, Answers, next_at, offsets_at, rows_at, restarts_at, block_at}
+use Rattle.xdb_block.proofs.KeysLaws.{size-more}
 use Rattle.xdb_block.proofs.Ranges.{row_kept, range_front}
 use Rattle.xdb_block.specs.Rows.{Row, row}
 use Rattle.xdb_block.specs.Spelling.{is_restart}
@@ -130,11 +131,12 @@ pub record Halfway (interval : ℕ) (kind : BlockKind) (bytes keys : List ℕ) (
   pub within : at ≤ length bytes
   pub last_lies : IfSome last (Lies (length keys) (length bytes))
   pub lie : All (Lies (length keys) (length bytes)) places
+  pub whole : length keys ≡ keys_size places
   pub so_far : GoesOn interval kind (length bytes) (length places) (option_map (row_of keys bytes) last) os (rows_of keys bytes places) (drop at bytes) total
 
 pub begins : (interval : ℕ) (kind : BlockKind) (bytes keys : List ℕ) (places : List Place) (os : List ℕ) → keys ≡ [] → places ≡ [] → Halfway interval kind bytes keys places None os 0 (rows_at (length bytes) interval kind (length bytes) 0 None os bytes)
 begins interval kind bytes keys places os no_keys no_places =
-    rw (no_keys, no_places) (record { within = omega arith; last_lies = tt; lie = λ k d less. absurd (omega arith); so_far = starts interval kind os bytes })
+    rw (no_keys, no_places) (record { within = omega arith; last_lies = tt; lie = λ k d less. absurd (omega arith); whole = refl; so_far = starts interval kind os bytes })
 
 -- the place of what is left
 place_is : (bytes : List ℕ) (at : ℕ) → at ≤ length bytes → length bytes - length (drop at bytes) ≡ at
@@ -142,9 +144,9 @@ place_is bytes at within = omega (arith, length-drop at bytes)
 
 pub halfway_on : (interval : ℕ) (kind : BlockKind) (bytes keys new : List ℕ) (places : List Place) (last : Option Place) (os left : List ℕ) (at : ℕ) (p : Place) (restart : Bool) (total : Result (List Row) BlockNo) → at < length bytes
     → restart ≡ is_restart interval (length places) → offsets_at at restart os ≡ Ok left → next_at at kind restart (option_map (row_of keys bytes) last) (drop at bytes) ≡ Ok (row_of new bytes p, drop p.end bytes)
-    → Lies (length new) (length bytes) p → take (length keys) new ≡ keys → at < p.end
+    → Lies (length new) (length bytes) p → take (length keys) new ≡ keys → at < p.end → (p.key ≡ length keys) × (p.key_end ≡ length new)
     → Halfway interval kind bytes keys places last os at total → Halfway interval kind bytes new (places ++ p ∷ []) (Some p) left p.end total
-halfway_on interval kind bytes keys new places last os left at p restart total more same offsets read lies grows behind h =
+halfway_on interval kind bytes keys new places last os left at p restart total more same offsets read lies grows behind is_last h =
     let n = length bytes in
     let in_bytes = lies.in_bytes in
     let here : length bytes - length (drop at bytes) ≡ at = place_is bytes at (omega arith) in
@@ -162,6 +164,7 @@ halfway_on interval kind bytes keys new places last os left at p restart total m
       within = in_bytes;
       last_lies = lies;
       lie = All-push (Lies (length new) n) places p wide lies;
+      whole = omega (arith, is_last.0, is_last.1, h.whole, size-more places p, grown keys new grows);
       so_far = subst (λ c. GoesOn interval kind n c (Some (row_of new bytes p)) left (rows_of new bytes (places ++ p ∷ [])) (drop p.end bytes) total) count
           (subst (λ rs. GoesOn interval kind n (length places + 1) (Some (row_of new bytes p)) left rs (drop p.end bytes) total) rows next);
     }
@@ -182,6 +185,9 @@ halfway_row bad interval kind bytes keys places last os left at restart total mo
     let offsets' : offsets_at (length bytes - length (drop at bytes)) (is_restart interval (length places)) os ≡ Ok left = (λ i. offsets_at (here i) (sym same i) os) ∙ offsets in
     let defect' = subst (λ r. IsDefect bad r) (λ i. next_at (sym here i) kind (same i) (option_map (row_of keys bytes) last) (drop at bytes)) defect in
     row_fails bad interval kind (length bytes) (length places) _ os left (rows_of keys bytes places) (drop at bytes) total (omega arith) offsets' defect' h.so_far
+
+pub halfway_whole : (interval : ℕ) (kind : BlockKind) (bytes keys : List ℕ) (places : List Place) (last : Option Place) (os : List ℕ) (at : ℕ) (total : Result (List Row) BlockNo) → Halfway interval kind bytes keys places last os at total → length keys ≡ keys_size places
+halfway_whole interval kind bytes keys places last os at total h = h.whole
 
 -- the entries are at their end
 pub halfway_ends : (interval : ℕ) (kind : BlockKind) (bytes keys : List ℕ) (places : List Place) (last : Option Place) (os : List ℕ) (at : ℕ) (total : Result (List Row) BlockNo) → length bytes ≤ at → os ≡ [] → Halfway interval kind bytes keys places last os at total → total ≡ Ok (rows_of keys bytes places)

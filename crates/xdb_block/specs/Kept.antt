@@ -1,5 +1,5 @@
 -- What a block and a writer keep.
-use Rattle.std.specs.Prelude.{◌≡◌, ℕ, zero, suc, ◌+◌, ◌^◌, ◌<◌, ◌≤◌, List, [], ◌∷◌, length, map, slice_range, None, Result, Ok, Err, All}
+use Rattle.std.specs.Prelude.{◌≡◌, ℕ, zero, suc, ◌+◌, ◌-◌, ◌^◌, ◌<◌, ◌≤◌, List, [], ◌∷◌, length, map, slice_range, None, Result, Ok, Err, All}
 use Rattle.std.specs.List.{AllByRecursion}
 use Rattle.xdb_block.specs.declared.internal.RowRef.{RowRef}
 use Rattle.xdb_block.specs.declared.kind.BlockNo.{BlockNo}
@@ -37,9 +37,16 @@ keys_of keys places = map (key_in keys) places
 abbrev pub HasKey : ℕ → Place → Type 0
 HasKey keys p = (p.key ≤ p.key_end) × (p.key_end ≤ keys)
 
+-- how many bytes the keys at places are
+abbrev pub keys_size : List Place → ℕ
+keys_size [] = 0
+keys_size (p ∷ ps) = p.key_end - p.key + keys_size ps
+
 pub record IsKept (keys bytes : List ℕ) (places : List Place) : Type 0 where
   pub lie : All (Lies (length keys) (length bytes)) places
   pub rise : Rise None (keys_of keys places)
+  -- nothing but the keys is kept
+  pub whole : length keys ≡ keys_size places
 
 -- ---- a writer
 

@@ -1,5 +1,5 @@
 -- What a block holds: rows, each an internal key with what stands behind it, and which rows make a block.
-use Rattle.std.specs.Prelude.{ℕ, ◌-◌, ◌%◌, Bool, true, false, ◌&&◌, ◌||◌, List, [], ◌∷◌, length, take, drop, slice_index_or, ◌≤◌, Option, Some, None, Result, Ok, Err, IsTrue, nat_le, nat_lt, ◌==◌, if◌then◌else◌}
+use Rattle.std.specs.Prelude.{ℕ, ◌+◌, ◌-◌, ◌%◌, Bool, true, false, ◌&&◌, ◌||◌, List, [], ◌∷◌, length, take, drop, slice_index_or, ◌≤◌, Option, Some, None, Result, Ok, Err, IsTrue, nat_le, nat_lt, ◌==◌, if◌then◌else◌}
 use Rattle.std.specs.List.{prefix_len}
 use Rattle.std.specs.Ordering.{is_lt, is_eq}
 use Rattle.byteorder.specs.Endian.{little_number}
@@ -92,6 +92,11 @@ abbrev pub Rise : Option (List ℕ) → List (List ℕ) → Type 0
 Rise last [] = Unit {0}
 Rise None (key ∷ keys) = Rise (Some key) keys
 Rise (Some last) (key ∷ keys) = IsTrue (precedes last key) × Rise (Some key) keys
+
+-- how many bytes the internal keys of rows are
+abbrev pub keys_len : List Row → ℕ
+keys_len [] = 0
+keys_len (r ∷ rs) = length r.key + keys_len rs
 
 -- the row at a place
 abbrev pub nth : List Row → ℕ → Row

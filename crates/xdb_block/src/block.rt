@@ -1,6 +1,6 @@
 ghost use Rattle.std.specs.Prelude.{◌≡◌, ◌+◌, ◌*◌, ◌<◌, ◌≤◌, ℕ, List, Ok, None, length, map, IfOk};
 ghost use Rattle.xdb_block.specs.Reading.{Answers, block_at};
-ghost use Rattle.xdb_block.specs.Rows.{Row, Rise, nth, place_from};
+ghost use Rattle.xdb_block.specs.Rows.{Row, Rise, keys_len, nth, place_from};
 ghost use Rattle.xdb_block.specs.Spelling.{IsBlock, block_bytes};
 
 use crate::place::Place;
@@ -32,8 +32,8 @@ impl Model for Block {
 }
 
 impl Block {
-    /// Reads a block of the kind, with a restart at each 16th entry. The block keeps the bytes, and beside
-    /// them its whole keys. No memory is taken by a number that the bytes state.
+    /// Reads a block of the kind, with a restart at each 16th entry. The block keeps the bytes, its whole
+    /// keys, which may be 16 times as many bytes, and a place for each row.
     pub fn parse(bytes: Vec<u8>, kind: BlockKind) -> Result<Self, BlockNo>
         // What is read is spelled so.
         ensures found { IfOk result (λ rows. IsBlock 16 kind rows × (bytes.items ≡ block_bytes 16 rows)) }
@@ -41,6 +41,8 @@ impl Block {
         ensures only { (rows : List Row) → IsBlock 16 kind rows → bytes.items ≡ block_bytes 16 rows → Answers (λ x. x) result (Ok rows) }
         // The refusal is the first defect.
         ensures exact { Answers (λ x. x) result (block_at 16 kind bytes.items) }
+        // Whole keys are at most 16 times as many bytes as the block.
+        ensures keys { IfOk result (λ rows. keys_len rows ≤ 16 * length bytes.items) }
     {
         let rows = read_block(*bytes.allocator(), INTERVAL, kind, &bytes)?;
         Ok(Block {
@@ -56,6 +58,14 @@ impl Block {
         ensures rise { Rise None (map (λ r. r.key) self.now) }
     {
         self.places.len()
+    }
+
+    /// How many bytes of keys it keeps.
+    pub fn keys_len(&self) -> usize
+        ensures len { result ≡ keys_len self.now }
+        ensures bound { result ≤ 16 * length (block_bytes 16 self.now) }
+    {
+        self.keys.len()
     }
 
     /// The internal key at a place.

@@ -1,5 +1,5 @@
 //! Entries and restart offsets, written.
-ghost use Rattle.std.specs.Prelude.{◌≡◌, ◌^◌, ◌+◌, ◌*◌, ◌<◌, ◌≤◌, ◌++◌, length, take, IfOk, OnOk, OnErr};
+ghost use Rattle.std.specs.Prelude.{◌≡◌, ◌^◌, ◌+◌, ◌*◌, ◌<◌, ◌≤◌, ◌++◌, length, take, nat_lt, is_ok, IfOk, OnOk, OnErr};
 ghost use Rattle.std.specs.Vec.{vec_capacity};
 ghost use Rattle.std.specs.List.{flat_map};
 ghost use Rattle.byteorder.specs.Endian.{little_bytes};
@@ -62,11 +62,20 @@ pub fn replace(last: &mut Vec<u8>, key: &[u8])
     }
 }
 
-/// How many bytes a block takes. It is want of memory where it would have 2^32 bytes or more.
+/// The place of an entry behind others of so many bytes. It is want of memory just from 2^32 on.
+pub fn entry_place(entries: usize) -> Result<u32, AllocError>
+    ensures place { IfOk result (λ at. at ≡ entries) }
+    ensures fits { is_ok result ≡ nat_lt entries (2 ^ 32) }
+{
+    u32::try_from(entries).map_err(|_| AllocError)
+}
+
+/// How many bytes a block takes. It is want of memory just where it would have 2^32 bytes or more.
 pub fn block_len(entries: usize, offsets: &[u32]) -> Result<usize, AllocError>
     requires { entries < 2 ^ 63 }
     ensures len { IfOk result (λ len. len ≡ entries + (4 * length offsets.now + 4)) }
     ensures short { IfOk result (λ len. len < 2 ^ 32) }
+    ensures fits { is_ok result ≡ nat_lt (entries + (4 * length offsets.now + 4)) (2 ^ 32) }
 {
     let len = entries + (4 * offsets.len() + 4);
     if len > u32::MAX as usize {

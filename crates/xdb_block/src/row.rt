@@ -40,6 +40,7 @@ pub fn read_row(
     ensures lies { IfOk result (Lies (length keys.new.items) (length entries.now)) }
     ensures grows { OnOk result (take (length keys.old.items) keys.new.items ≡ keys.old.items) }
     ensures behind { IfOk result (λ p. at < p.end) }
+    ensures last { IfOk result (λ p. (p.key ≡ length keys.old.items) × (p.key_end ≡ length keys.new.items)) }
 {
     let place = put_key(restart, last, entries, at, keys)?;
     if !follows(kind, last, place, entries, keys) {
@@ -89,6 +90,7 @@ fn put_key(
     ensures lies { IfOk result (Lies (length keys.new.items) (length entries.now)) }
     ensures grows { OnOk result (take (length keys.old.items) keys.new.items ≡ keys.old.items) }
     ensures behind { IfOk result (λ p. at < p.end) }
+    ensures last { IfOk result (λ p. (p.key ≡ length keys.old.items) × (p.key_end ≡ length keys.new.items)) }
 {
     let lengths = read_lengths(entries, at)?;
     let (from, to) = key_range(last);

@@ -1,6 +1,6 @@
 //! All rows of a block, read in one pass over its entries.
 ghost use Rattle.std.specs.Prelude.{◌≡◌, ◌≤◌, None, All, length, IfOk};
-ghost use Rattle.xdb_block.specs.Kept.{rows_of, Lies, IsKept};
+ghost use Rattle.xdb_block.specs.Kept.{rows_of, keys_size, Lies, IsKept};
 ghost use Rattle.xdb_block.specs.Reading.{Answers, numbers, rows_at, block_at};
 ghost use Rattle.xdb_block.specs.Spelling.{IsBlock, block_bytes};
 
@@ -45,6 +45,7 @@ fn read_rows(
     requires { 1 ≤ interval }
     ensures answers { Answers (λ x. rows_of x.keys.items entries.now x.places.items) result (rows_at (length entries.now) interval kind (length entries.now) 0 None (numbers offsets.now) entries.now) }
     ensures lie { IfOk result (λ x. All (Lies (length x.keys.items) (length entries.now)) x.places.items) }
+    ensures whole { IfOk result (λ x. length x.keys.items ≡ keys_size x.places.items) }
 {
     let mut keys = Vec::new(alloc);
     let mut places = Vec::new(alloc);

@@ -52,32 +52,69 @@ fn defect(alloc: Global, bytes: &[u8], kind: BlockKind) -> Result<Option<BlockNo
     }
 }
 
+/// Adds a set.
+fn add(
+    alloc: Global,
+    writer: &mut BlockWriter,
+    user: &[u8],
+    seq: u64,
+    value: &[u8],
+) -> Result<(), Fail> {
+    let key = internal(alloc, user, seq, 1)?;
+    Ok(writer.add(&key, value)?)
+}
+
+fn two_points(alloc: Global) -> Result<BlockWriter, Fail> {
+    let mut writer = BlockWriter::new(alloc, 16);
+    for (seq, value) in [(2, b"2"), (1, b"1")] {
+        add(alloc, &mut writer, b"a", seq, value)?;
+    }
+    Ok(writer)
+}
+
+fn has_two_points(writer: &BlockWriter) -> bool {
+    writer.count() == 2
+        && writer.entries_len() == 24
+        && writer.block_len() == Ok(32)
+        && !writer.is_full()
+        && writer.last_key() == b"a\x01\x01\0\0\0\0\0\0".as_slice()
+}
+
 #[test]
 fn two_points_of_one_key(rt: HostRuntime) -> Result<(), Fail> {
-    let alloc = rt.alloc();
-    let mut writer = BlockWriter::new(alloc, 16);
-    writer.add(&internal(alloc, b"a", 2, 1)?, b"2")?;
-    writer.add(&internal(alloc, b"a", 1, 1)?, b"1")?;
-    assert!(rt; writer.count() == 2);
-    assert!(rt; writer.entries_len() == 24);
-    assert!(rt; writer.last_key() == b"a\x01\x01\0\0\0\0\0\0".as_slice());
-    let mut out = Vec::new(alloc);
-    assert!(rt; writer.put(&mut out)? == 32);
-    assert!(rt; out.as_slice() == BLOCK.as_slice());
-    let bytes = writer.finish()?;
+    let writer = two_points(rt.alloc())?;
+    assert!(rt; has_two_points(&writer));
+    Ok(())
+}
+
+#[test]
+fn two_points_as_a_block(rt: HostRuntime) -> Result<(), Fail> {
+    let bytes = two_points(rt.alloc())?.finish()?;
     assert!(rt; bytes.as_slice() == BLOCK.as_slice());
     Ok(())
 }
 
 #[test]
-fn points_are_found_by_key_and_number(rt: HostRuntime) -> Result<(), Fail> {
-    let alloc = rt.alloc();
-    let block = Block::parse(BLOCK.to_vec(alloc)?, BlockKind::Point)?;
-    assert!(rt; block.len() == 2);
-    let (user, trailer) = key_parts(block.key(1));
-    assert!(rt; user == b"a".as_slice() && trailer == 257);
-    assert!(rt; block.key(1) == b"a\x01\x01\0\0\0\0\0\0".as_slice());
-    assert!(rt; block.value(0) == b"2".as_slice());
+fn two_points_behind_others(rt: HostRuntime) -> Result<(), Fail> {
+    let mut out = Vec::new(rt.alloc());
+    let len = two_points(rt.alloc())?.put(&mut out)?;
+    assert!(rt; len == 32 && out.as_slice() == BLOCK.as_slice());
+    Ok(())
+}
+
+/// Whether the search for the user key at the number finds the place.
+fn is_found(
+    alloc: Global,
+    block: &Block,
+    user: &[u8],
+    seq: u64,
+    place: usize,
+) -> Result<bool, Fail> {
+    let key = key(alloc, user)?;
+    Ok(block.seek_ge(&key, seq) == place)
+}
+
+fn finds_two_points(alloc: Global, block: &Block) -> Result<bool, Fail> {
     let rows: [(&[u8], u64, usize); 7] = [
         (b"Z", 0, 0),
         (b"a", u64::MAX, 0),
@@ -88,34 +125,137 @@ fn points_are_found_by_key_and_number(rt: HostRuntime) -> Result<(), Fail> {
         (b"b", 9, 2),
     ];
     for (user, seq, place) in rows {
-        assert!(rt;
-            block.seek_ge(&key(alloc, user)?, seq) == place,
-            "{user:?} {seq}"
-        );
+        if !is_found(alloc, block, user, seq, place)? {
+            return Ok(false);
+        }
     }
+    Ok(has_two_rows(block))
+}
+
+fn has_two_rows(block: &Block) -> bool {
+    if block.len() != 2 {
+        return false;
+    }
+    let (user, trailer) = key_parts(block.key(1));
+    user == b"a".as_slice()
+        && trailer == 257
+        && block.key(1) == b"a\x01\x01\0\0\0\0\0\0".as_slice()
+        && block.value(0) == b"2".as_slice()
+}
+
+#[test]
+fn points_are_found_by_key_and_number(rt: HostRuntime) -> Result<(), Fail> {
+    let alloc = rt.alloc();
+    let block = Block::parse(BLOCK.to_vec(rt.alloc())?, BlockKind::Point)?;
+    let found = finds_two_points(alloc, &block)?;
+    assert!(rt; found);
     Ok(())
+}
+
+/// Ten user keys of four points each.
+fn forty_points(alloc: Global) -> Result<BlockWriter, Fail> {
+    let mut writer = BlockWriter::new(alloc, 16);
+    for i in 0..40u8 {
+        let user = [b'k', b'e', b'y', b'0' + i / 4];
+        add(alloc, &mut writer, &user, 9 - u64::from(i % 4), &[i])?;
+    }
+    Ok(writer)
+}
+
+fn has_forty_points(alloc: Global, block: &Block) -> Result<bool, Fail> {
+    for i in 0..40u8 {
+        let user = [b'k', b'e', b'y', b'0' + i / 4];
+        if !stands_at(alloc, block, &user, 9 - u64::from(i % 4), usize::from(i))? {
+            return Ok(false);
+        }
+    }
+    Ok(block.len() == 40 && block.keys_len() == 40 * 12)
+}
+
+/// Whether the set of the user key at the number stands at the place, and is found there.
+fn stands_at(
+    alloc: Global,
+    block: &Block,
+    user: &[u8],
+    seq: u64,
+    place: usize,
+) -> Result<bool, Fail> {
+    Ok(is_found(alloc, block, user, seq, place)? && has_key(alloc, block, user, seq, place)?)
+}
+
+fn has_key(
+    alloc: Global,
+    block: &Block,
+    user: &[u8],
+    seq: u64,
+    place: usize,
+) -> Result<bool, Fail> {
+    let key = internal(alloc, user, seq, 1)?;
+    Ok(place < block.len() && block.key(place) == key.as_slice())
 }
 
 #[test]
 fn prefixes_shared_into_the_trailer(rt: HostRuntime) -> Result<(), Fail> {
     let alloc = rt.alloc();
-    let mut writer = BlockWriter::new(alloc, 16);
-    for i in 0..40u8 {
-        let user = [b'k', b'e', b'y', b'0' + i / 4];
-        writer.add(&internal(alloc, &user, 9 - u64::from(i % 4), 1)?, &[i])?;
-    }
-    let bytes = writer.finish()?;
+    let bytes = forty_points(rt.alloc())?.finish()?;
     // Of 40 entries 3 are restarts of 3 + 12 + 1 bytes. Of the others 7 have a new user key and share 3
     // bytes, and 30 share its 4 bytes and the kind: 3 + 9 + 1 and 3 + 7 + 1 bytes.
     assert!(rt; bytes.len() == 3 * 16 + 7 * 13 + 30 * 11 + 4 * 4);
     let block = Block::parse(bytes, BlockKind::Point)?;
-    assert!(rt; block.len() == 40);
-    for i in 0..block.len() {
-        let user = [b'k', b'e', b'y', b'0' + (i as u8 / 4) % 10];
-        let seq = 9 - i as u64 % 4;
-        assert!(rt; block.key(i) == internal(alloc, &user, seq, 1)?.as_slice());
-        assert!(rt; block.seek_ge(&key(alloc, &user)?, seq) == i);
+    let found = has_forty_points(alloc, &block)?;
+    assert!(rt; found);
+    Ok(())
+}
+
+/// A user key of three letters.
+fn user_key(i: usize) -> [u8; 3] {
+    let letter = |n: usize| b'a' + (n % 26) as u8;
+    [letter(i / 676), letter(i / 26), letter(i)]
+}
+
+fn many_points(alloc: Global) -> Result<BlockWriter, Fail> {
+    let mut writer = BlockWriter::new(alloc, 16);
+    for i in 0..5000 {
+        add(alloc, &mut writer, &user_key(i), 7, b"value")?;
     }
+    Ok(writer)
+}
+
+fn has_many_points(alloc: Global, block: &Block) -> Result<bool, Fail> {
+    for i in 0..5000 {
+        if !stands_at(alloc, block, &user_key(i), 7, i)? {
+            return Ok(false);
+        }
+    }
+    Ok(block.len() == 5000 && block.keys_len() == 5000 * 11)
+}
+
+/// Each point is written and found again.
+#[test]
+fn thousands_of_points(rt: HostRuntime) -> Result<(), Fail> {
+    let alloc = rt.alloc();
+    let bytes = many_points(rt.alloc())?.finish()?;
+    let block = Block::parse(bytes, BlockKind::Point)?;
+    let found = has_many_points(alloc, &block)?;
+    assert!(rt; found);
+    Ok(())
+}
+
+fn long_point(alloc: Global) -> Result<BlockWriter, Fail> {
+    let mut writer = BlockWriter::new(alloc, 16);
+    let value = vec![in alloc; b'v'; 65_536]?;
+    add(alloc, &mut writer, b"a", 1, &value)?;
+    Ok(writer)
+}
+
+/// The longest value that an operation may have, and one byte more, which a block may have too.
+#[test]
+fn a_value_of_65536_bytes(rt: HostRuntime) -> Result<(), Fail> {
+    let bytes = long_point(rt.alloc())?.finish()?;
+    // Lengths of 1, 1 and 3 bytes, a key of 9, the value, and a restart part of 8.
+    assert!(rt; bytes.len() == 5 + 9 + 65_536 + 8);
+    let block = Block::parse(bytes, BlockKind::Point)?;
+    assert!(rt; block.len() == 1 && block.value(0).len() == 65_536);
     Ok(())
 }
 

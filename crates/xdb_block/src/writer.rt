@@ -1,11 +1,11 @@
-ghost use Rattle.std.specs.Prelude.{◌≡◌, ◌^◌, ◌<◌, ◌≤◌, ◌==◌, [], ◌∷◌, ◌++◌, length, Ok, IfOk, OnOk, OnErr};
+ghost use Rattle.std.specs.Prelude.{◌≡◌, ◌^◌, ◌<◌, ◌≤◌, ◌==◌, [], ◌∷◌, ◌++◌, length, nat_le, nat_lt, is_ok, Ok, IfOk, OnOk, OnErr};
 ghost use Rattle.xdb_block.specs.declared.kind.BlockKind.{BlockKind};
 ghost use Rattle.xdb_block.specs.Kept.{draft, last_key};
 ghost use Rattle.xdb_block.specs.Reading.{block_at};
 ghost use Rattle.xdb_block.specs.Rows.{row, AreRows};
 ghost use Rattle.xdb_block.specs.Spelling.{entries, block_bytes, IsBlock};
 
-use crate::entry::{block_len, put_entry, put_offset, put_restarts, replace};
+use crate::entry::{block_len, entry_place, put_entry, put_offset, put_restarts, replace};
 use crate::shared::left_out;
 use std::alloc::{AllocError, Global};
 use std::marker::Model;
@@ -74,15 +74,30 @@ impl BlockWriter {
         &self.last
     }
 
-    /// Adds a row: an internal key and what stands behind it. Where the block would pass 2^32 - 1 bytes,
-    /// the answer here or of `finish` is want of memory.
+    /// How many bytes the block takes. It is want of memory just where it would have 2^32 bytes or more,
+    /// which no block that is written has; nothing is taken for it.
+    pub fn block_len(&self) -> Result<usize, AllocError>
+        ensures len { IfOk result (λ len. len ≡ length (block_bytes self.now.interval self.now.rows)) }
+        ensures fits { is_ok result ≡ nat_lt (length (block_bytes self.now.interval self.now.rows)) (2 ^ 32) }
+    {
+        block_len(self.out.len(), &self.restarts)
+    }
+
+    /// Whether no entry may be added, as it would begin at 2^32 or behind.
+    pub fn is_full(&self) -> bool
+        ensures { result ≡ nat_le (2 ^ 32) (length (entries self.now.interval self.now.rows)) }
+    {
+        self.out.len() > u32::MAX as usize
+    }
+
+    /// Adds a row: an internal key and what stands behind it. The answer is want of memory too where
+    /// `is_full` says so; where the block would pass 2^32 - 1 bytes, that of `finish` is.
     pub fn add(&mut self, key: &[u8], value: &[u8]) -> Result<(), AllocError>
         ensures added { OnOk result (self.new ≡ draft self.old.interval (self.old.rows ++ row key.now value.now ∷ [])) }
         ensures unchanged { OnErr result (self.new ≡ self.old) }
+        ensures full { OnOk result (length (entries self.old.interval self.old.rows) < 2 ^ 32) }
     {
-        let Ok(at) = u32::try_from(self.out.len()) else {
-            return Err(AllocError);
-        };
+        let at = entry_place(self.out.len())?;
         self.last.try_reserve(key.len())?;
         self.restarts.try_reserve(1)?;
         let restart = self.count % self.interval as usize == 0;

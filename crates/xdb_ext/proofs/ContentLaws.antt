@@ -1,11 +1,11 @@
 -- What an external table says of keys, and that its bounds and its refusal are one.
-use Rattle.std.proofs.Common.{◌≡◌, ℕ, ◌+◌, ◌*◌, ◌<◌, ◌≤◌, Bool, true, false, ◌&&◌, not, cond, ltb, leb, List, [], ◌∷◌, ◌++◌, length, map, Option, Some, None, is_none, IsTrue, ◌↔◌, ◌==◌, inl, inr, ◌⊎◌, refl, sym, ap, ◌∙◌, subst, arith}
+use Rattle.std.proofs.Common.{◌≡◌, ℕ, ◌+◌, ◌≤◌, Bool, true, false, ◌&&◌, not, cond, ltb, leb, List, [], ◌∷◌, ◌++◌, length, map, Option, Some, None, is_none, ◌↔◌, ◌==◌, inl, inr, refl, sym, ap, ◌∙◌, subst, arith}
 use Rattle.std.proofs.lemmas.Bool.{and_parts, false≢true, cases_lt, lt-ltb, le-ltb, lt-leb, le-leb, eq-eqb, ne_eqb}
 use Rattle.std.specs.Option.{option_map}
 use Rattle.xdb_key.proofs.OrderLaws.{below-itself, below_trans, upto_antisymm}
-use Rattle.xdb_key.specs.Bounds.{Bounds, bounds, covers}
+use Rattle.xdb_key.specs.Bounds.{Bounds, bounds}
 use Rattle.xdb_key.specs.Entries.{Point, point, Tombstone}
-use Rattle.xdb_key.specs.Ops.{op_hull, keeps_order, last_key, disorder_after, disorder, is_table}
+use Rattle.xdb_key.specs.Ops.{op_hull, keeps_order, disorder_after, disorder, is_table}
 use Rattle.xdb_key.specs.Order.{is_below, is_upto}
 use Rattle.xdb_key.specs.declared.op.Kind.TheVariants as kinds
 use Rattle.xdb_key.specs.declared.op.Op.{Op}
@@ -13,11 +13,11 @@ use Rattle.xdb_key.specs.declared.op.Op.TheVariants.{Set, Del, DelSpan}
 use Rattle.xdb_rangedel.proofs.MemberLaws.{Has-append_left, Has-append_right, Has-append_cases, Has-map, Has-from_map, Has-from_filter_map}
 use Rattle.xdb_rangedel.proofs.NewestLaws.{newest-greatest, same_key-itself}
 use Rattle.xdb_rangedel.proofs.SpanLaws.{entries_in-content_of, spans_in-content_of}
-use Rattle.xdb_rangedel.specs.Content.{Item, entry, span, seq_of, same_key, here, rank, said, said_by, verdict, verdict_by, value_at, entry_of, content_of, is_seen, newest, IsClear, in_pieces, entries_in, spans_in}
+use Rattle.xdb_rangedel.specs.Content.{Item, entry, span, seq_of, same_key, rank, said_by, verdict, verdict_by, value_at, entry_of, content_of, IsClear, in_pieces}
 use Rattle.xdb_rangedel.specs.Members.{Has, SameMembers}
 use Rattle.xdb_rangedel.specs.Pieces.{pieces}
 use Rattle.xdb_ext.proofs.BoundsLaws.{point_zero, span_hull}
-use Rattle.xdb_ext.proofs.OpLaws.{in_order, kept, some_same}
+use Rattle.xdb_ext.proofs.OpLaws.{in_order, kept}
 use Rattle.xdb_ext.specs.declared.error.ExtNo.TheVariants.{EmptyTable, TooMany, OutOfOrder}
 use Rattle.xdb_ext.specs.Refusing.{refusal_of}
 use Rattle.xdb_ext.specs.Operations.{point_of, span_of, points_of, spans_of, ops_content}

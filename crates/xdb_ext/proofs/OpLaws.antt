@@ -8,7 +8,7 @@ use Rattle.std.specs.Option.{option_map, option_to_list}
 use Rattle.std.specs.Ordering.{nat_cmp, is_lt, ordering_then}
 use Rattle.std.specs.declared.cmp.Ordering.{Ordering}
 use Rattle.std.specs.declared.cmp.Ordering.TheVariants.{Less, Equal, Greater}
-use Rattle.xdb_key.specs.Entries.{Point, point, Tombstone, IsPoint}
+use Rattle.xdb_key.specs.Entries.{Point, point, Tombstone}
 use Rattle.xdb_key.specs.Ops.{rises, last_key, keeps_order, disorder_after, disorder, is_table}
 use Rattle.xdb_key.specs.Order.{key_cmp, is_below}
 use Rattle.xdb_key.specs.declared.op.Kind.TheVariants as kinds
@@ -113,11 +113,6 @@ behind_all last row at (o ∷ ops) (suc i) op p e h inside is as_point =
 
 pub point_behind : (ops : List Op) (i : ℕ) (op : Op) (p : Point) → is_table ops ≡ true → i < length ops → op ≡ get_or ops i op → point_of op ≡ Some p → goes_behind (last_of None (map point_row (points_of (take i ops)))) (point_row p) ≡ true
 point_behind ops i op p table inside is as_point = behind_all None None 0 ops i op p refl (in_order ops table) inside is as_point
-
-pub is_point : (op : Op) (p : Point) → point_of op ≡ Some p → IsPoint p
-is_point (Set key value) p e = subst IsPoint (some_same _ _ e) (omega arith, tt)
-is_point (Del key) p e = subst IsPoint (some_same _ _ e) (omega arith, refl)
-is_point (DelSpan range) p e = absurd (cc)
 
 -- a writer of the points so far, and one operation more
 pub written_more : (ops : List Op) (i : ℕ) (op : Op) (old new : Content) → i < length ops → op ≡ get_or ops i op → old ≡ content (map point_row (points_of (take i ops))) [] → new ≡ content (old.points ++ map point_row (option_to_list (point_of op))) old.spans

@@ -1,7 +1,7 @@
 ghost use Rattle.std.specs.Prelude.{◌≡◌, ◌≤◌, ◌<◌, ◌^◌, [], ◌++◌, length, map, None, Some, Err, IfOk, OnOk, IfSome, IfNone, IsOkUnless, IsTrue};
 ghost use Rattle.std.specs.List.{All};
 ghost use Rattle.std.specs.Option.{option_to_list};
-ghost use Rattle.xdb_key.specs.Entries.{Point, IsPoint};
+ghost use Rattle.xdb_key.specs.Entries.{Point};
 ghost use Rattle.xdb_key.specs.Ops.{is_table};
 ghost use Rattle.xdb_rangedel.specs.Pieces.{is_ordered};
 ghost use Rattle.xdb_table_w.specs.Content.{content, point_row, span_row, last_of, goes_behind};
@@ -118,8 +118,7 @@ fn add_point(writer: &mut TableWriter, op: &Op) -> Result<(), AllocError>
 
 /// The operation as an entry, where it is a point.
 fn entry(op: &Op) -> Result<Option<Entry>, AllocError>
-    ensures entry { IfOk result (λ entry. entry ≡ point_of op.now) }
-    ensures point { IfOk result (λ entry. IfSome entry IsPoint) }
+    ensures { IfOk result (λ entry. entry ≡ point_of op.now) }
 {
     match op {
         Op::Set { key, value } => {

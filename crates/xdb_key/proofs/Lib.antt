@@ -1,4 +1,5 @@
 pub mod OrderLaws
+pub mod InOrderLaws
 pub mod NameLaws
 pub mod VarintLaws
 pub mod ReadingLaws

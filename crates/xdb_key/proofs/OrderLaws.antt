@@ -1,14 +1,14 @@
 -- The order of keys is total, and a key's hull meets just the ranges that hold the key.
-use Rattle.std.proofs.Common.{◌≡◌, ℕ, Bool, true, false, not, ◌&&◌, cond, ◌==◌, List, [], ◌∷◌, ◌++◌, refl, sym, ap, ◌∙◌, arith}
-use Rattle.std.proofs.lemmas.Bool.{false≢true, true≢false, le-ltb}
+use Rattle.std.proofs.Common.{◌≡◌, ℕ, Bool, true, false, not, ◌&&◌, cond, ◌==◌, List, [], ◌∷◌, inl, inr, refl, sym, ap, ◌∙◌, arith}
+use Rattle.std.proofs.lemmas.Bool.{cases_Bool, false≢true, true≢false, le-ltb}
 use Rattle.std.specs.declared.cmp.Ordering.{Ordering}
 use Rattle.std.specs.declared.cmp.Ordering.TheVariants.{Less, Equal, Greater}
-use Rattle.std.specs.Ordering.{nat_cmp, is_lt, is_le, is_gt, is_eq, ordering_then, ordering_reverse}
-use Rattle.std.specs.Cmp.{IsTotalOrder, tied_itself, alike_right, tied_back, nat_cmp_total}
-use Rattle.std.specs.Cmp.Lexicographic.{slice_cmp, nat_list_cmp_total}
+use Rattle.std.specs.Ordering.{nat_cmp, is_lt, is_le, ordering_then, ordering_reverse}
+use Rattle.std.specs.Cmp.{IsTotalOrder, tied_itself, alike_right}
+use Rattle.std.specs.Cmp.Lexicographic.{nat_list_cmp_total}
 use Rattle.std.specs.FinMap.{IsAntisymmetric, nat_cmp-IsAntisymmetric, slice_cmp-IsAntisymmetric}
 use Rattle.xdb_key.specs.Order.{key_cmp, is_below, is_upto}
-use Rattle.xdb_key.specs.Bounds.{Bounds, holds, meets, key_hull, successor}
+use Rattle.xdb_key.specs.Bounds.{Bounds, holds, meets, key_hull, successor, lesser, greater}
 
 pub key_total : IsTotalOrder key_cmp
 key_total = nat_list_cmp_total
@@ -120,3 +120,67 @@ meets-key_hull k r = ap (λ b. is_below k r.hi && b) (below-successor r.lo k) �
 
 pub meets-symmetric : (r o : Bounds) → meets r o ≡ meets o r
 meets-symmetric r o = and-comm (is_below r.lo o.hi) (is_below o.lo r.hi)
+
+-- ---- the lesser and the greater of two bounds
+
+lesser-second : (a b : List ℕ) → is_below b a ≡ true → lesser a b ≡ b
+lesser-second a b h = ap (λ t. cond t b a) h
+
+lesser-first : (a b : List ℕ) → is_below b a ≡ false → lesser a b ≡ a
+lesser-first a b h = ap (λ t. cond t b a) h
+
+greater-second : (a b : List ℕ) → is_below a b ≡ true → greater a b ≡ b
+greater-second a b h = ap (λ t. cond t b a) h
+
+greater-first : (a b : List ℕ) → is_below a b ≡ false → greater a b ≡ a
+greater-first a b h = ap (λ t. cond t b a) h
+
+upto-if : (a b : List ℕ) → is_below b a ≡ false → is_upto a b ≡ true
+upto-if a b h = upto-not_below a b ∙ ap not h
+
+pub lesser_upto_first : (a b : List ℕ) → is_upto (lesser a b) a ≡ true
+lesser_upto_first a b = elim (cases_Bool (is_below b a)) [
+  | inl less ↦ ap (λ c. is_upto c a) (lesser-second a b less) ∙ upto_from_below b a less
+  | inr not_less ↦ ap (λ c. is_upto c a) (lesser-first a b not_less) ∙ upto-itself a
+]
+
+pub lesser_upto_second : (a b : List ℕ) → is_upto (lesser a b) b ≡ true
+lesser_upto_second a b = elim (cases_Bool (is_below b a)) [
+  | inl less ↦ ap (λ c. is_upto c b) (lesser-second a b less) ∙ upto-itself b
+  | inr not_less ↦ ap (λ c. is_upto c b) (lesser-first a b not_less) ∙ upto-if a b not_less
+]
+
+pub first_upto_greater : (a b : List ℕ) → is_upto a (greater a b) ≡ true
+first_upto_greater a b = elim (cases_Bool (is_below a b)) [
+  | inl less ↦ ap (is_upto a) (greater-second a b less) ∙ upto_from_below a b less
+  | inr not_less ↦ ap (is_upto a) (greater-first a b not_less) ∙ upto-itself a
+]
+
+pub second_upto_greater : (a b : List ℕ) → is_upto b (greater a b) ≡ true
+second_upto_greater a b = elim (cases_Bool (is_below a b)) [
+  | inl less ↦ ap (is_upto b) (greater-second a b less) ∙ upto-itself b
+  | inr not_less ↦ ap (is_upto b) (greater-first a b not_less) ∙ upto-if b a not_less
+]
+
+-- what is up to both is up to the lesser
+pub upto_lesser : (c a b : List ℕ) → is_upto c a ≡ true → is_upto c b ≡ true → is_upto c (lesser a b) ≡ true
+upto_lesser c a b h g = elim (cases_Bool (is_below b a)) [
+  | inl less ↦ ap (is_upto c) (lesser-second a b less) ∙ g
+  | inr not_less ↦ ap (is_upto c) (lesser-first a b not_less) ∙ h
+]
+
+pub greater_upto : (c a b : List ℕ) → is_upto a c ≡ true → is_upto b c ≡ true → is_upto (greater a b) c ≡ true
+greater_upto c a b h g = elim (cases_Bool (is_below a b)) [
+  | inl less ↦ ap (λ d. is_upto d c) (greater-second a b less) ∙ g
+  | inr not_less ↦ ap (λ d. is_upto d c) (greater-first a b not_less) ∙ h
+]
+
+pub lesser_turned : (a b : List ℕ) → lesser a b ≡ lesser b a
+lesser_turned a b = upto_antisymm (lesser a b) (lesser b a)
+    (upto_lesser (lesser a b) b a (lesser_upto_second a b) (lesser_upto_first a b))
+    (upto_lesser (lesser b a) a b (lesser_upto_second b a) (lesser_upto_first b a))
+
+pub greater_turned : (a b : List ℕ) → greater a b ≡ greater b a
+greater_turned a b = upto_antisymm (greater a b) (greater b a)
+    (greater_upto (greater b a) a b (second_upto_greater b a) (first_upto_greater b a))
+    (greater_upto (greater a b) b a (second_upto_greater a b) (first_upto_greater a b))

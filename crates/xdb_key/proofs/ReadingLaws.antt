@@ -1,5 +1,5 @@
 -- How readers go on.
-use Rattle.std.proofs.Common.{◌≡◌, ℕ, suc, ◌<◌, Bool, true, false, cond, List, ◌∷◌, get_or, drop, subst, sym, ◌+◌, Result, Ok, Err, refl, ap, inl, inr, ◌⊎◌}
+use Rattle.std.proofs.Common.{◌≡◌, ℕ, suc, ◌<◌, Bool, true, false, cond, List, ◌∷◌, drop, subst, sym, ◌+◌, Result, Ok, Err, refl, ap, inl, inr, ◌⊎◌}
 use Rattle.std.proofs.lemmas.List.{get_or-drop}
 use Rattle.xdb_key.specs.Reading.{◌>>=◌, AreBytes}
 

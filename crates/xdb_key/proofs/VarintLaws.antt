@@ -1,6 +1,6 @@
 -- What is spelled is read again, and what is read is spelled so.
-use Rattle.std.proofs.Common.{◌≡◌, ℕ, zero, suc, ◌+◌, ◌-◌, ◌*◌, ◌/◌, ◌%◌, ◌^◌, ◌<◌, ◌≤◌, Bool, true, false, cond, eqb, ltb, List, [], ◌∷◌, ◌++◌, length, get_or, take, drop, set, append_assoc, subst, Result, Ok, Err, refl, sym, ap, ◌∙◌, arith, inl, inr}
-use Rattle.std.proofs.lemmas.Bool.{lt-ltb, le-ltb, ltb-true, ltb-false, eqb-false, ne_eqb, cases_lt, false≢true, true≢false}
+use Rattle.std.proofs.Common.{◌≡◌, ℕ, zero, suc, ◌+◌, ◌-◌, ◌*◌, ◌/◌, ◌%◌, ◌^◌, ◌<◌, ◌≤◌, true, false, cond, eqb, ltb, List, [], ◌∷◌, ◌++◌, length, take, drop, set, append_assoc, subst, Result, Ok, Err, sym, ap, ◌∙◌, arith, inl, inr}
+use Rattle.std.proofs.lemmas.Bool.{lt-ltb, le-ltb, ltb-true, ltb-false, eqb-false, ne_eqb, cases_lt}
 use Rattle.std.proofs.Math.Nat.{pow-succ', pow-le-pow_right}
 use Rattle.std.proofs.Math.ListN.{length-set}
 use Rattle.std.proofs.lemmas.List.{take_more_set, length-append, drop_at, take-append-drop}
@@ -8,7 +8,7 @@ use Rattle.xdb_key.proofs.ReadingLaws.{bind_ok, chosen, guard_ok, ok_parts, AreB
 use Rattle.xdb_key.specs.Reading.{◌>>=◌, AreBytes}
 use Rattle.xdb_key.specs.Varint.{groups_of, varint, with_low, more_at, varint_at}
 use Rattle.xdb_key.specs.declared.error.VarintNo.{VarintNo}
-use Rattle.xdb_key.specs.declared.error.VarintNo.TheVariants.{TooLarge, Short, Overlong}
+use Rattle.xdb_key.specs.declared.error.VarintNo.TheVariants.{Overlong}
 
 pub groups_of-last : (most n : ℕ) → n < 128 → groups_of (suc most) n ≡ n ∷ []
 groups_of-last most n h = ap (λ b. cond b (n ∷ []) ((128 + n % 128) ∷ groups_of most (n / 128))) (lt-ltb n 128 h)

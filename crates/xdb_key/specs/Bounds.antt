@@ -1,5 +1,5 @@
 -- Ranges of keys: the start belongs to the range, and the end does not.
-use Rattle.std.specs.Prelude.{ℕ, Bool, ◌&&◌, List, [], ◌∷◌, ◌++◌}
+use Rattle.std.specs.Prelude.{ℕ, Bool, ◌&&◌, List, [], ◌∷◌, ◌++◌, if◌then◌else◌}
 use Rattle.xdb_key.specs.Order.{is_below, is_upto}
 
 pub record Bounds : Type 0 where
@@ -28,3 +28,11 @@ successor k = k ++ 0 ∷ []
 -- the range of one key alone
 abbrev pub key_hull : List ℕ → Bounds
 key_hull k = bounds k (successor k)
+
+-- the lesser of two bounds
+abbrev pub lesser : List ℕ → List ℕ → List ℕ
+lesser a b = if is_below b a then b else a
+
+-- the greater of two bounds
+abbrev pub greater : List ℕ → List ℕ → List ℕ
+greater a b = if is_below a b then b else a

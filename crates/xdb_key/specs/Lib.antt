@@ -6,6 +6,7 @@ pub mod NameKept
 pub mod Refused
 pub mod Kinds
 pub mod Entries
+pub mod InOrder
 pub mod Ops
 pub mod Groups
 pub mod Reading

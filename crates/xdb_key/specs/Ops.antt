@@ -1,5 +1,5 @@
 -- Operations: the keys that they speak of, and the lists of them that make a table or a batch.
-use Rattle.std.specs.Prelude.{ℕ, ◌+◌, Bool, true, false, ◌&&◌, ◌||◌, List, [], ◌∷◌, length, map, sum, Option, Some, None, nat_le, nat_lt, is_none, if◌then◌else◌}
+use Rattle.std.specs.Prelude.{ℕ, ◌+◌, Bool, true, ◌&&◌, List, [], ◌∷◌, length, map, sum, Option, Some, None, nat_le, is_none, if◌then◌else◌}
 use Rattle.std.specs.List.{list_any}
 use Rattle.xdb_key.specs.Bounds.{Bounds, key_hull, meets}
 use Rattle.xdb_key.specs.Order.{is_below}

@@ -1,6 +1,6 @@
 -- Readers of formats, as functions on lists: each answers a value and the bytes after it, or the first
 -- defect from the left.
-use Rattle.std.specs.Prelude.{◌≡◌, ℕ, ◌<◌, List, ◌++◌, get_or, Result, Ok, Err}
+use Rattle.std.specs.Prelude.{◌≡◌, ℕ, ◌<◌, List, get_or, Result, Ok, Err}
 
 infixl 10 ◌>>=◌
 -- a reader after another, which runs where the first one found no defect

@@ -1,8 +1,10 @@
 ghost use Rattle.std.specs.Prelude.{◌≡◌, ◌↔◌, ◌<◌, ◌≤◌, ◌^◌, [], IsTrue, IfOk};
 ghost use Rattle.xdb_key.specs.Bounds.{bounds};
-ghost use Rattle.xdb_key.specs.Entries.{point, tombstone, reach, IsReach};
+ghost use Rattle.xdb_key.specs.Entries.{point, tombstone, reach, IsPoint, IsReach};
+ghost use Rattle.xdb_key.specs.InOrder.{comes_before};
+ghost use Rattle.xdb_key.specs.Kinds.{trailer};
 
-use crate::{Bound, Key, KeyRange, Kind, Val};
+use crate::{Bound, Key, KeyRange, Kind, Val, compare};
 use std::alloc::AllocError;
 use std::marker::Model;
 use std::sync::Arc;
@@ -81,6 +83,7 @@ impl Entry {
     pub fn seq(&self) -> u64
         ensures seq { result ≡ self.now.seq }
         ensures small { self.now.seq < 2 ^ 56 }
+        ensures point { IsPoint self.now }
     {
         self.said.seq
     }
@@ -95,6 +98,22 @@ impl Entry {
         ensures { result.now ≡ self.now.value }
     {
         &self.said.value
+    }
+
+    /// The number and the kind behind it, as internal keys have them in their last 8 bytes.
+    pub fn trailer(&self) -> u64
+        ensures { result ≡ trailer self.now.seq self.now.kind }
+    {
+        self.said.seq * 256 + u64::from(self.said.kind.code())
+    }
+
+    /// Whether it stands before the other in internal order.
+    pub fn comes_before(&self, other: &Entry) -> bool
+        ensures { result ≡ comes_before self.now other.now }
+    {
+        compare(self.key().bytes(), other.key().bytes())
+            .then(other.trailer().cmp(&self.trailer()))
+            .is_lt()
     }
 
     /// An equal entry, which shares the bytes. It takes no memory; an error means that there are as

@@ -4,10 +4,10 @@ ghost use Rattle.std.specs.Prelude.{Some, nat_eq, refl};
 ghost use Rattle.std.proofs.Common.{rules};
 ghost use Rattle.xdb_key.specs.Limits.{IsKey, IsBound};
 ghost use Rattle.xdb_key.specs.Refused.{IsRefused};
-ghost use Rattle.xdb_key.specs.Bounds.{successor};
+ghost use Rattle.xdb_key.specs.Bounds.{key_hull, successor};
 ghost use Rattle.xdb_key.specs.Order.{key_cmp};
 
-use crate::{KeyNo, MAX_BOUND, MAX_KEY, compare};
+use crate::{KeyNo, KeyRange, MAX_BOUND, MAX_KEY, compare};
 use smallvec::SmallVec;
 use std::alloc::{AllocError, Global};
 use std::cmp::Ordering;
@@ -77,6 +77,18 @@ impl Key {
     {
         let bytes = SmallVec::from_slice(*self.bytes.allocator(), self.bytes.as_slice())?;
         Ok(Bound { bytes })
+    }
+
+    /// The range of this key alone.
+    pub fn hull(&self) -> Result<KeyRange, AllocError>
+        ensures { IfOk result (λ hull. hull ≡ key_hull self.now) }
+    {
+        let lo = self.bound()?;
+        let hi = self.successor()?;
+        let Ok(hull) = KeyRange::new(lo, hi) else {
+            unreachable!()
+        };
+        Ok(hull)
     }
 
     pub fn same(&self, other: &Key) -> bool

@@ -21,7 +21,7 @@ pub use name::Name;
 pub use op::{Kind, Op, disorder, string_len};
 pub use ops::Ops;
 pub use ordering::{compare, is_below, is_upto};
-pub use range::KeyRange;
+pub use range::{KeyRange, greater, lesser};
 pub use state::SnapState;
 pub use std::alloc::AllocError as Memory;
 pub use value::Val;

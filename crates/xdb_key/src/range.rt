@@ -1,5 +1,5 @@
 ghost use Rattle.std.specs.Prelude.{◌≡◌, ◌↔◌, IsTrue, IfOk, is_ok};
-ghost use Rattle.xdb_key.specs.Bounds.{bounds, holds, meets, covers};
+ghost use Rattle.xdb_key.specs.Bounds.{bounds, holds, meets, covers, lesser, greater};
 ghost use Rattle.xdb_key.specs.Order.{is_below};
 
 use crate::{Bound, Inverted, Key, is_below, is_upto};
@@ -88,4 +88,18 @@ impl KeyRange {
     {
         is_upto(self.lo.bytes(), o.lo.bytes()) && is_upto(o.hi.bytes(), self.hi.bytes())
     }
+}
+
+/// The lesser of two bounds. By value it is `min`, and the greater `max`, as `Bound` has an order.
+pub fn lesser<'a>(a: &'a Bound, b: &'a Bound) -> &'a Bound
+    ensures { result.now ≡ lesser a.now b.now }
+{
+    if is_below(b.bytes(), a.bytes()) { b } else { a }
+}
+
+/// The greater of two bounds.
+pub fn greater<'a>(a: &'a Bound, b: &'a Bound) -> &'a Bound
+    ensures { result.now ≡ greater a.now b.now }
+{
+    if is_below(a.bytes(), b.bytes()) { b } else { a }
 }

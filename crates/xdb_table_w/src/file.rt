@@ -1,5 +1,5 @@
 //! The file in one buffer: point blocks, spans, index and footer.
-ghost use Rattle.std.specs.Prelude.{◌≡◌, ◌^◌, ◌<◌, ◌≤◌, [], ◌∷◌, ◌++◌, None, All, length, IfOk, OnOk};
+ghost use Rattle.std.specs.Prelude.{◌≡◌, ◌^◌, ◌<◌, ◌≤◌, [], ◌∷◌, ◌++◌, None, All, length, nat_lt, is_ok, IfOk, OnOk};
 ghost use Rattle.byteorder.specs.Endian.{little_bytes};
 ghost use Rattle.xdb_block.specs.declared.kind.BlockKind.{BlockKind};
 ghost use Rattle.xdb_block.specs.Kept.{draft, last_key};
@@ -50,10 +50,19 @@ pub fn write_table(
     let spans_part = put_part(&mut out, spans)?;
     let index_part = put_part(&mut out, &index)?;
     put_footer(&mut out, spans_part, index_part)?;
-    if out.len() >= 1 << 56 {
+    test_len(out.len())?;
+    Ok((out, index))
+}
+
+/// A file of so many bytes counts as want of memory just where they are 2^56 or more.
+fn test_len(len: usize) -> Result<(), AllocError>
+    ensures short { OnOk result (len < 2 ^ 56) }
+    ensures fits { is_ok result ≡ nat_lt len (2 ^ 56) }
+{
+    if len >= 1 << 56 {
         return Err(AllocError);
     }
-    Ok((out, index))
+    Ok(())
 }
 
 /// Puts all point blocks, and answers their index.

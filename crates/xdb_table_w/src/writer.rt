@@ -1,5 +1,4 @@
 ghost use Rattle.std.specs.Prelude.{◌≡◌, ◌+◌, ◌^◌, ◌<◌, ◌≤◌, ◌==◌, [], ◌∷◌, ◌++◌, None, length, IfOk, OnOk, OnErr, IsTrue};
-ghost use Rattle.xdb_key.specs.Entries.{IsPoint};
 ghost use Rattle.xdb_table_w.specs.Content.{point_row, span_row, content, last_of, goes_behind, lies_behind};
 ghost use Rattle.xdb_table_w.specs.Extents.{IsExtent};
 ghost use Rattle.xdb_table_w.specs.Files.{IsTable};
@@ -86,7 +85,6 @@ impl TableWriter {
     /// Adds a point. Points rise in internal order. Where a block would pass 2^32 - 1 bytes, the answer
     /// here or of `finish` is want of memory.
     pub fn add(&mut self, e: &Entry) -> Result<(), AllocError>
-        requires point { IsPoint e.now }
         requires order { IsTrue (goes_behind (last_of None self.old.points) (point_row e.now)) }
         ensures added { OnOk result (self.new ≡ content (self.old.points ++ point_row e.now ∷ []) self.old.spans) }
         ensures unchanged { OnErr result (self.new ≡ self.old) }

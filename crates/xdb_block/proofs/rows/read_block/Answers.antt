@@ -20,4 +20,4 @@ returns-clause-kept c =
     let bytes = c.args.bytes.now in
     let fits : AreBytes bytes = λ i. omega (arith, c.type_inv.bytes i) in
     let answers = block_answers c.args.interval c.args.kind bytes c.in_ok-end.end _ c.read_rows.result c.in_ok-end.ensures.answers c.in_ok-end.ensures.within c.read_rows.ensures.lie c.read_rows.ensures.answers in
-    block_kept c.args.interval c.args.kind bytes c.in_ok-end.end c.read_rows.result fits c.in_ok-end.ensures.within c.read_rows.ensures.lie answers
+    block_kept c.args.interval c.args.kind bytes c.in_ok-end.end c.read_rows.result fits c.in_ok-end.ensures.within c.read_rows.ensures.lie c.read_rows.ensures.whole answers

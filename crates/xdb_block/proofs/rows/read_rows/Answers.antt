@@ -1,7 +1,7 @@
 use Rattle.std.proofs.Common.{◌≡◌, ◌%◌, ap, length, arith, ◌==◌, ◌<◌}
 use Rattle.std.proofs.lemmas.Result.{err_from_is_err_and}
 use Rattle.xdb_block.specs.Reading.{numbers}
-use Rattle.xdb_block.proofs.Loop.{begins, halfway_on, halfway_offset, halfway_row, halfway_ends, halfway_left_over}
+use Rattle.xdb_block.proofs.Loop.{begins, halfway_on, halfway_offset, halfway_row, halfway_ends, halfway_left_over, halfway_whole}
 use Rattle.xdb_block.proofs.rows.read_rows.Goals as goal
 
 pub loop-at-init : goal.loop-at-init
@@ -26,7 +26,7 @@ loop-at-preserved c =
     let count : c.len.result ≡ length c.loop-at.places.items = omega arith in
     let more : c.loop-at.at < length c.args.entries.now = c.loop-at-test.true in
     let e = c.in_ok-place.ensures in
-    let next = halfway_on c.args.interval c.args.kind c.args.entries.now c.loop-at.keys.items c.read_row.new.keys.items c.loop-at.places.items c.loop-at.last _ _ c.loop-at.at c.in_ok-place.place _ _ more (ap (λ n. n % c.args.interval == 0) count) c.in_ok-offsets.ensures e.answers e.lies e.grows e.behind c.loop-at.invariant in
+    let next = halfway_on c.args.interval c.args.kind c.args.entries.now c.loop-at.keys.items c.read_row.new.keys.items c.loop-at.places.items c.loop-at.last _ _ c.loop-at.at c.in_ok-place.place _ _ more (ap (λ n. n % c.args.interval == 0) count) c.in_ok-offsets.ensures e.answers e.lies e.grows e.behind e.last c.loop-at.invariant in
     rw c.in_ok-push.ensures.items next
 
 pub returns-in-Some-clause-answers : goal.returns-in-Some-clause-answers
@@ -36,3 +36,6 @@ returns-in-Some-clause-answers c =
 pub returns-in-None-clause-answers : goal.returns-in-None-clause-answers
 returns-in-None-clause-answers c =
     halfway_ends c.args.interval c.args.kind c.args.entries.now c.loop-at.keys.items c.loop-at.places.items c.loop-at.last _ c.loop-at.at _ c.loop-at-test.false c.in-None.ensures.first c.loop-at.invariant
+
+pub returns-in-None-clause-whole : goal.returns-in-None-clause-whole
+returns-in-None-clause-whole c = halfway_whole c.args.interval c.args.kind c.args.entries.now c.loop-at.keys.items c.loop-at.places.items c.loop-at.last _ c.loop-at.at _ c.loop-at.invariant

@@ -1,4 +1,4 @@
-use Rattle.std.proofs.Common.{◌-◌, ◌+◌, ◌*◌, ◌<◌, ◌^◌, arith}
+use Rattle.std.proofs.Common.{◌-◌, ◌<◌, ◌^◌, arith}
 use Rattle.std.proofs.Math.Nat.{one-le-pow}
 use Rattle.xdb_key.proofs.VarintLaws.{pow-small, low-and-more}
 use Rattle.xdb_key.proofs.varint.+read_more.Goals as goal

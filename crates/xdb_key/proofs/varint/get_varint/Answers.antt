@@ -1,4 +1,4 @@
-use Rattle.std.proofs.Common.{◌≡◌, ◌-◌, drop, length, ℕ, ◌∙◌, ap, sym, Ok, Err, Result, List, refl, arith}
+use Rattle.std.proofs.Common.{◌≡◌, ◌-◌, drop, length, ℕ, ◌∙◌, ap, sym, Ok, Result, List, arith}
 use Rattle.std.proofs.Math.ListN.{drop_of_length-le}
 use Rattle.xdb_key.proofs.ReadingLaws.{AreBytes-drop}
 use Rattle.xdb_key.proofs.VarintLaws.{place-after, varint_at-takes}
