@@ -1,4 +1,5 @@
-ghost use Rattle.std.specs.Prelude.{◌≡◌, ℕ, List, Some, None, IfOk, if◌then◌else◌};
+ghost use Rattle.std.specs.Prelude.{◌≡◌, ◌<◌, ◌^◌, ℕ, List, Some, None, IsTrue, IfOk, if◌then◌else◌};
+ghost use Rattle.std.specs.List.{All};
 ghost use Rattle.xdb_key.specs.Bounds.{holds};
 ghost use Rattle.xdb_key.specs.Order.{is_below, is_upto};
 ghost use Rattle.xdb_key.specs.Entries.{Tombstone};
@@ -76,7 +77,22 @@ impl Fragments {
     pub fn list(&self) -> &[Span]
         ensures list { result.now ≡ self.now }
         ensures fragments { AreFragments self.now }
+        ensures small { All (λ t. t.seq < 2 ^ 56) self.now }
     {
+        prove!(are_small(&self.spans));
         &self.spans
     }
+}
+
+/// Whether each number is a sequence number, as that of each span is.
+fn are_small(spans: &[Span]) -> bool
+    ensures all { IsTrue result }
+    ensures small { All (λ t. t.seq < 2 ^ 56) spans.now }
+{
+    for span in spans {
+        if span.seq() >= 1 << 56 {
+            return false;
+        }
+    }
+    true
 }
