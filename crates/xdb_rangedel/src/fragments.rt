@@ -26,7 +26,7 @@ impl Model for Fragments {
 
     ghost view = { λ f. f.spans.items };
 
-    ghost invariant = { λ f. AreFragments f.spans.items };
+    ghost invariant = { λ f. AreFragments f.spans.items × All (λ t. t.seq < 2 ^ 56) f.spans.items };
 }
 
 impl Fragments {
@@ -39,6 +39,7 @@ impl Fragments {
             → cover_of made key limit ≡ cover_of spans.now key limit) }
     {
         let spans = sweep::fragments(alloc, spans)?;
+        prove!(are_small(&spans));
         Ok(Fragments { spans })
     }
 
@@ -56,6 +57,7 @@ impl Fragments {
             ≡ (if holds range.now key then cover_of self.now key limit else None)) }
     {
         let spans = parts::inside(*self.spans.allocator(), &self.spans, range)?;
+        prove!(are_small(&spans));
         Ok(Fragments { spans })
     }
 
@@ -70,6 +72,8 @@ impl Fragments {
     {
         let left = parts::before(*self.spans.allocator(), &self.spans, at)?;
         let right = parts::from(*self.spans.allocator(), &self.spans, at)?;
+        prove!(are_small(&left));
+        prove!(are_small(&right));
         Ok((Fragments { spans: left }, Fragments { spans: right }))
     }
 
@@ -79,7 +83,6 @@ impl Fragments {
         ensures fragments { AreFragments self.now }
         ensures small { All (λ t. t.seq < 2 ^ 56) self.now }
     {
-        prove!(are_small(&self.spans));
         &self.spans
     }
 }
