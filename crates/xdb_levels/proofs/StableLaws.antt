@@ -7,6 +7,7 @@ use Rattle.std.specs.declared.cmp.Ordering.TheVariants.{Less, Equal, Greater}
 use Rattle.std.specs.Ordering.{is_lt, is_le, is_gt, is_eq, ordering_reverse}
 use Rattle.std.specs.Cmp.{IsTotalOrder}
 use Rattle.std.proofs.lemmas.Bool.{and_parts, and_from, cases_Bool, cond-true, cond-false, false≢true}
+use Rattle.std.proofs.lemmas.List.Elements.{filter-append}
 use Rattle.std.proofs.lemmas.Cmp.{upto, tied_itself, alike_right}
 use Rattle.std.proofs.lemmas.Grind.{reverse_onto}
 use Rattle.std.proofs.lemmas.List.Sorted.{ranks_by, sorted_far}
@@ -55,13 +56,6 @@ ties_eq : (r : Ordering) → (not (is_lt r) && not (is_lt (ordering_reverse r)))
 ties_eq Less = refl
 ties_eq Equal = refl
 ties_eq Greater = refl
-
-filter-append : {X : Type 0} (p : X → Bool) (xs ys : List X) → filter p (xs ++ ys) ≡ filter p xs ++ filter p ys
-filter-append p [] ys = refl
-filter-append p (x ∷ xs) ys = elim (cases_Bool (p x)) [
-  | inl yes' ↦ cond-true (p x) _ _ yes' ∙ ap (λ zs. x ∷ zs) (filter-append p xs ys) ∙ sym (ap (λ zs. zs ++ filter p ys) (cond-true (p x) (x ∷ filter p xs) (filter p xs) yes'))
-  | inr no' ↦ cond-false (p x) _ _ no' ∙ filter-append p xs ys ∙ sym (ap (λ zs. zs ++ filter p ys) (cond-false (p x) (x ∷ filter p xs) (filter p xs) no'))
-]
 
 -- what a filter keeps first passes it, and has what all have
 first_kept : {X : Type 0} (p q : X → Bool) (xs : List X) (y : X) (ys : List X) → list_all q xs ≡ true → filter p xs ≡ y ∷ ys → (p y ≡ true) × (q y ≡ true)

@@ -1,4 +1,5 @@
-ghost use Rattle.std.specs.Prelude.{◌≡◌, ℕ, List, Some, None, IfOk, if◌then◌else◌};
+ghost use Rattle.std.specs.Prelude.{◌≡◌, ◌<◌, ◌^◌, ℕ, List, Some, None, IsTrue, IfOk, if◌then◌else◌};
+ghost use Rattle.std.specs.List.{All};
 ghost use Rattle.xdb_key.specs.Bounds.{holds};
 ghost use Rattle.xdb_key.specs.Order.{is_below, is_upto};
 ghost use Rattle.xdb_key.specs.Entries.{Tombstone};
@@ -25,7 +26,7 @@ impl Model for Fragments {
 
     ghost view = { λ f. f.spans.items };
 
-    ghost invariant = { λ f. AreFragments f.spans.items };
+    ghost invariant = { λ f. AreFragments f.spans.items × All (λ t. t.seq < 2 ^ 56) f.spans.items };
 }
 
 impl Fragments {
@@ -38,6 +39,7 @@ impl Fragments {
             → cover_of made key limit ≡ cover_of spans.now key limit) }
     {
         let spans = sweep::fragments(alloc, spans)?;
+        prove!(are_small(&spans));
         Ok(Fragments { spans })
     }
 
@@ -55,6 +57,7 @@ impl Fragments {
             ≡ (if holds range.now key then cover_of self.now key limit else None)) }
     {
         let spans = parts::inside(*self.spans.allocator(), &self.spans, range)?;
+        prove!(are_small(&spans));
         Ok(Fragments { spans })
     }
 
@@ -69,6 +72,8 @@ impl Fragments {
     {
         let left = parts::before(*self.spans.allocator(), &self.spans, at)?;
         let right = parts::from(*self.spans.allocator(), &self.spans, at)?;
+        prove!(are_small(&left));
+        prove!(are_small(&right));
         Ok((Fragments { spans: left }, Fragments { spans: right }))
     }
 
@@ -76,7 +81,21 @@ impl Fragments {
     pub fn list(&self) -> &[Span]
         ensures list { result.now ≡ self.now }
         ensures fragments { AreFragments self.now }
+        ensures small { All (λ t. t.seq < 2 ^ 56) self.now }
     {
         &self.spans
     }
+}
+
+/// Whether each number is a sequence number, as that of each span is.
+fn are_small(spans: &[Span]) -> bool
+    ensures all { IsTrue result }
+    ensures small { All (λ t. t.seq < 2 ^ 56) spans.now }
+{
+    for span in spans {
+        if span.seq() >= 1 << 56 {
+            return false;
+        }
+    }
+    true
 }

@@ -23,6 +23,7 @@ pub record ArePointsOf {F : Type 0} (bytes : F → Option (List ℕ)) (v : Shown
 
 pub record IsWalk {F : Type 0} (bytes : F → Option (List ℕ)) (w : Walk F) : Type 0 where
   pub unread : w.read ≡ false → w.points ≡ []
+  pub before : w.read ≡ false → w.place ≡ 0
   pub points : w.read ≡ true → ArePointsOf bytes w.view w.points
   pub within : w.place ≤ length w.points + 1
 

@@ -1,6 +1,6 @@
 -- The extent of what a part of a view holds: the least range with the hulls of its points and with its spans, and the
 -- least and the greatest of their numbers.
-use Rattle.std.specs.Prelude.{◌≡◌, ℕ, ◌≤◌, List, [], ◌++◌, map, min, max, Option, None, Some, Result, Ok, Err, IsOkAnd, IsTrue, if◌then◌else◌}
+use Rattle.std.specs.Prelude.{◌≡◌, ℕ, ◌≤◌, false, List, [], ◌++◌, map, min, max, Option, None, Some, Result, Ok, Err, IsOkAnd, IsTrue, if◌then◌else◌}
 use Rattle.xdb_key.specs.Bounds.{Bounds, bounds, covers, key_hull}
 use Rattle.xdb_key.specs.Entries.{Point, Tombstone, Reach, reach}
 use Rattle.xdb_key.specs.Order.{is_below, is_upto}
@@ -54,6 +54,10 @@ range_before r at = bounds r.lo (earlier_of at r.hi)
 
 abbrev pub range_from : Bounds → List ℕ → Bounds
 range_from r at = bounds (later_of at r.lo) r.hi
+
+-- the range ends before it begins, or where it begins
+abbrev pub IsEmpty : Bounds → Type 0
+IsEmpty r = is_below r.lo r.hi ≡ false
 
 -- the points of a range; the file isn't read where the range ends before it begins
 abbrev pub part_at : Bounds → ℕ → List Row → List ℕ → Result (List Point) ℕ

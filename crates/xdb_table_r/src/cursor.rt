@@ -6,7 +6,7 @@ ghost use Rattle.xdb_key.specs.Order.{is_upto, is_below};
 ghost use Rattle.xdb_device.specs.Counted.{Counted};
 ghost use Rattle.xdb_table_r.specs.Opening.{Tells};
 ghost use Rattle.xdb_table_r.specs.Views.{view_at};
-ghost use Rattle.xdb_table_r.specs.Cursors.{walk, ArePointsOf, at_place, below, next_place, prev_place, ge_place, lt_place};
+ghost use Rattle.xdb_table_r.specs.Cursors.{walk, IsWalk, ArePointsOf, at_place, below, next_place, prev_place, ge_place, lt_place};
 
 use crate::TableNo;
 use crate::view::View;
@@ -49,7 +49,8 @@ impl<F: FileRef> ViewCursor<F> {
 
     /// The view that the cursor goes over.
     pub fn view(&self) -> &View<F>
-        ensures { result.now ≡ self.now.view }
+        ensures view { result.now ≡ self.now.view }
+        ensures walk { IsWalk F.bytes self.now }
     {
         &self.view
     }
@@ -58,6 +59,8 @@ impl<F: FileRef> ViewCursor<F> {
     pub fn next<R: Reader<File = F>>(&mut self, dev: &mut R) -> Result<Option<Entry>, TableNo>
         ensures counted { Counted R.faults R.misses R.frame dev.old dev.new (IsErrOf result TableNo.ReadFault) }
         ensures told { R.told dev.new ≡ R.told dev.old }
+        // The points are read once.
+        ensures alone { self.old.read ≡ true → dev.new ≡ dev.old }
         ensures view { self.new.view ≡ self.old.view }
         ensures read { OnOk result (self.new.read ≡ true) }
         ensures kept { self.old.read ≡ true → self.new.points ≡ self.old.points }
@@ -67,6 +70,7 @@ impl<F: FileRef> ViewCursor<F> {
         ensures place { OnOk result (self.new.place ≡ next_place (length self.new.points) self.old.place) }
         ensures answer { IfOk result (λ e. e ≡ at_place self.new.points self.new.place) }
         ensures stays { OnErr result (self.new.place ≡ self.old.place) }
+        ensures walk { IsWalk F.bytes self.new }
     {
         load(&self.view, &mut self.read, &mut self.points, dev)?;
         let place = self.place.min(self.points.len()) + 1;
@@ -79,6 +83,8 @@ impl<F: FileRef> ViewCursor<F> {
     pub fn prev<R: Reader<File = F>>(&mut self, dev: &mut R) -> Result<Option<Entry>, TableNo>
         ensures counted { Counted R.faults R.misses R.frame dev.old dev.new (IsErrOf result TableNo.ReadFault) }
         ensures told { R.told dev.new ≡ R.told dev.old }
+        // The points are read once.
+        ensures alone { self.old.read ≡ true → dev.new ≡ dev.old }
         ensures view { self.new.view ≡ self.old.view }
         ensures read { OnOk result (self.new.read ≡ true) }
         ensures kept { self.old.read ≡ true → self.new.points ≡ self.old.points }
@@ -88,6 +94,7 @@ impl<F: FileRef> ViewCursor<F> {
         ensures place { OnOk result (self.new.place ≡ prev_place self.old.place) }
         ensures answer { IfOk result (λ e. e ≡ at_place self.new.points self.new.place) }
         ensures stays { OnErr result (self.new.place ≡ self.old.place) }
+        ensures walk { IsWalk F.bytes self.new }
     {
         load(&self.view, &mut self.read, &mut self.points, dev)?;
         let place = self.place.saturating_sub(1);
@@ -104,6 +111,8 @@ impl<F: FileRef> ViewCursor<F> {
     ) -> Result<Option<Entry>, TableNo>
         ensures counted { Counted R.faults R.misses R.frame dev.old dev.new (IsErrOf result TableNo.ReadFault) }
         ensures told { R.told dev.new ≡ R.told dev.old }
+        // The points are read once.
+        ensures alone { self.old.read ≡ true → dev.new ≡ dev.old }
         ensures view { self.new.view ≡ self.old.view }
         ensures read { OnOk result (self.new.read ≡ true) }
         ensures kept { self.old.read ≡ true → self.new.points ≡ self.old.points }
@@ -113,6 +122,7 @@ impl<F: FileRef> ViewCursor<F> {
         ensures place { OnOk result (self.new.place ≡ ge_place key.now self.new.points) }
         ensures answer { IfOk result (λ e. e ≡ at_place self.new.points self.new.place) }
         ensures stays { OnErr result (self.new.place ≡ self.old.place) }
+        ensures walk { IsWalk F.bytes self.new }
     {
         load(&self.view, &mut self.read, &mut self.points, dev)?;
         let place = below(&self.points, key) + 1;
@@ -129,6 +139,8 @@ impl<F: FileRef> ViewCursor<F> {
     ) -> Result<Option<Entry>, TableNo>
         ensures counted { Counted R.faults R.misses R.frame dev.old dev.new (IsErrOf result TableNo.ReadFault) }
         ensures told { R.told dev.new ≡ R.told dev.old }
+        // The points are read once.
+        ensures alone { self.old.read ≡ true → dev.new ≡ dev.old }
         ensures view { self.new.view ≡ self.old.view }
         ensures read { OnOk result (self.new.read ≡ true) }
         ensures kept { self.old.read ≡ true → self.new.points ≡ self.old.points }
@@ -138,6 +150,7 @@ impl<F: FileRef> ViewCursor<F> {
         ensures place { OnOk result (self.new.place ≡ lt_place key.now self.new.points) }
         ensures answer { IfOk result (λ e. e ≡ at_place self.new.points self.new.place) }
         ensures stays { OnErr result (self.new.place ≡ self.old.place) }
+        ensures walk { IsWalk F.bytes self.new }
     {
         load(&self.view, &mut self.read, &mut self.points, dev)?;
         let place = below(&self.points, key);
@@ -158,6 +171,7 @@ fn load<F: FileRef, R: Reader<File = F>>(
     requires known { read.old ≡ true → ArePointsOf F.bytes view.now points.old.items }
     ensures counted { Counted R.faults R.misses R.frame dev.old dev.new (IsErrOf result TableNo.ReadFault) }
     ensures told { R.told dev.new ≡ R.told dev.old }
+    ensures alone { read.old ≡ true → dev.new ≡ dev.old }
     ensures read { OnOk result (read.new ≡ true) }
     ensures left { OnErr result (read.new ≡ read.old) }
     ensures same { OnErr result (points.new.items ≡ points.old.items) }

@@ -47,8 +47,9 @@ impl<F: FileRef> Model for TableFile<F> {
 
 impl<F: FileRef> TableFile<F> {
     /// Opens the file with the number `backing`: reads its footer, its index and its spans, in this order,
-    /// and names the first of them that isn't in the grammar. No number in the file makes it take more
-    /// memory than the file is long.
+    /// and names the first of them that isn't in the grammar. It reads within the file, whatever the
+    /// numbers in it say. What it keeps takes more memory than the blocks read: an index is kept with
+    /// whole keys, up to 16 times its length.
     pub fn open<R: Reader<File = F>>(
         alloc: Global,
         file: F,

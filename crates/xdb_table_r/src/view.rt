@@ -4,7 +4,7 @@ ghost use Rattle.xdb_rangedel.specs.Clip.{later_of, earlier_of};
 ghost use Rattle.xdb_rangedel.specs.Members.{SameMembers};
 ghost use Rattle.xdb_rangedel.specs.Pieces.{AreFragments};
 ghost use Rattle.xdb_table_r.specs.Views.{range_of, span_for, spans_in, shown, keys_of};
-ghost use Rattle.xdb_table_r.specs.Reaches.{TellsOf, range_before, range_from, part_at, Reaches, LiesWithin};
+ghost use Rattle.xdb_table_r.specs.Reaches.{TellsOf, range_before, range_from, part_at, Reaches, LiesWithin, IsEmpty};
 ghost use Rattle.xdb_table_r.specs.Cursors.{walk};
 
 use crate::TableNo;
@@ -50,6 +50,14 @@ impl<F: FileRef> View<F> {
         }
     }
 
+    /// The number that stands for all numbers; 0 where there is none.
+    pub fn synthetic(&self) -> u64
+        ensures synthetic { result ≡ self.now.synthetic }
+        ensures small { self.now.synthetic < 2 ^ 56 }
+    {
+        self.window.synthetic
+    }
+
     /// A cursor over the view's points, before the first. It takes no memory and reads nothing.
     pub fn cursor(self) -> ViewCursor<F>
         ensures { result ≡ walk self false [] 0 }
@@ -77,6 +85,8 @@ impl<F: FileRef> View<F> {
     ) -> Result<Option<Extent>, TableNo>
         ensures counted { Counted R.faults R.misses R.frame dev.old dev.new (IsErrOf result TableNo.ReadFault) }
         ensures told { R.told dev.new ≡ R.told dev.old }
+        // Where that side is empty, nothing is read.
+        ensures alone { IsEmpty (range_before (keys_of self.now) at.now) → dev.new ≡ dev.old }
         ensures within { IfOk result (λ e. IfSome e (LiesWithin (range_before (keys_of self.now) at.now))) }
         ensures tells { IfSome (F.bytes self.now.table.file) (λ b. TellsOf self.now.table.backing (Reaches (range_before (keys_of self.now) at.now) self.now.synthetic self.now.table.spans) result (part_at (range_before (keys_of self.now) at.now) self.now.synthetic self.now.table.index b)) }
     {
@@ -94,6 +104,8 @@ impl<F: FileRef> View<F> {
     ) -> Result<Option<Extent>, TableNo>
         ensures counted { Counted R.faults R.misses R.frame dev.old dev.new (IsErrOf result TableNo.ReadFault) }
         ensures told { R.told dev.new ≡ R.told dev.old }
+        // Where that side is empty, nothing is read.
+        ensures alone { IsEmpty (range_from (keys_of self.now) at.now) → dev.new ≡ dev.old }
         ensures within { IfOk result (λ e. IfSome e (LiesWithin (range_from (keys_of self.now) at.now))) }
         ensures tells { IfSome (F.bytes self.now.table.file) (λ b. TellsOf self.now.table.backing (Reaches (range_from (keys_of self.now) at.now) self.now.synthetic self.now.table.spans) result (part_at (range_from (keys_of self.now) at.now) self.now.synthetic self.now.table.index b)) }
     {
@@ -176,6 +188,7 @@ fn extent_in<F: FileRef, R: Reader<File = F>>(
     requires { window.now.synthetic < 2 ^ 56 }
     ensures counted { Counted R.faults R.misses R.frame dev.old dev.new (IsErrOf result TableNo.ReadFault) }
     ensures told { R.told dev.new ≡ R.told dev.old }
+    ensures alone { IsEmpty (range_of window.now) → dev.new ≡ dev.old }
     ensures within { IfOk result (λ e. IfSome e (LiesWithin (range_of window.now))) }
     ensures tells { IfSome (F.bytes table.now.file) (λ b. TellsOf table.now.backing (Reaches (range_of window.now) window.now.synthetic table.now.spans) result (part_at (range_of window.now) window.now.synthetic table.now.index b)) }
 {
