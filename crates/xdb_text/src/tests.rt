@@ -595,15 +595,17 @@ fn no_history_has_no_lines(rt: HostRuntime) -> Result<(), Fail> {
     Ok(())
 }
 
-/// The numbers of the jobs have 18,893 digits together; each byte of the value is three.
+/// The lines of the jobs have 16 bytes each beside their numbers, which have 18,893 digits together.
+/// A space is spelled with three bytes.
 fn is_long(out: &[u8]) -> bool {
-    let steps = 5000 * "db put  -> none\n".len() + 18_893;
-    let value = "db seal -> value \n".len() + 3 * 65_536;
-    out.len() == steps + value
-        && out.starts_with(b"db put 1 -> none\ndb put 2 -> none\n")
-        && out[..steps].ends_with(b"db put 4999 -> none\ndb put 5000 -> none\n")
-        && out[steps..].starts_with(b"db seal -> value %20%20")
-        && out.ends_with(b"%20%20\n")
+    if out.len() != 5000 * 16 + 18_893 + 17 + 3 * 65_536 + 1 {
+        return false;
+    }
+    let (jobs, value) = out.split_at(98_893);
+    jobs.starts_with(b"db put 1 -> none\ndb put 2 -> none\n")
+        && jobs.ends_with(b"db put 4999 -> none\ndb put 5000 -> none\n")
+        && value.starts_with(b"db seal -> value %20%20")
+        && value.ends_with(b"%20%20\n")
 }
 
 #[test]
