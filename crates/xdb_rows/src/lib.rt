@@ -9,5 +9,3 @@ pub mod refused_edits;
 pub mod refused_holds;
 pub mod refused_replies;
 pub mod snapshots;
-#[cfg(test)]
-mod tests;
