@@ -392,7 +392,7 @@ fn the_greatest_number_is_taken(rt: HostRuntime) -> Result<(), Fail> {
 }
 
 /// How many range deletes stand beside the wide one.
-const MANY: u32 = 2000;
+const MANY: u16 = 2000;
 
 /// The bounds k0000 to k9999.
 fn spot(alloc: Global, n: u32) -> Result<Bound, Fail> {
@@ -422,8 +422,8 @@ fn commit_stretch(alloc: Global, queue: &mut MemQueue, from: u32, to: u32) -> Re
 /// lies at place 7 n, counted around.
 fn commit_many(alloc: Global, queue: &mut MemQueue) -> Result<(), Fail> {
     commit_stretch(alloc, queue, 0, 9999)?;
-    for n in 0..MANY {
-        let place = n * 7 % MANY;
+    for n in 0..u32::from(MANY) {
+        let place = n * 7 % 2000;
         commit_stretch(alloc, queue, place * 2, place * 2 + 1)?;
     }
     Ok(())
@@ -436,11 +436,18 @@ fn many(alloc: Global) -> Result<MemQueue, Fail> {
 }
 
 /// Whether just the wide range delete lies there below the number, and at it the narrow one too.
-fn is_narrow(alloc: Global, queue: &MemQueue, place: u32, number: u64) -> Result<bool, Fail> {
-    let here = stretch(alloc, place * 2, place * 2 + 1)?;
-    let before = queue.parts(&here, number)?;
-    let now = queue.parts(&here, number + 1)?;
-    Ok(numbers(&before) == [1, 0] && numbers(&now) == [number, 1])
+fn is_narrow(alloc: Global, queue: &MemQueue, place: u16, number: u32) -> Result<bool, Fail> {
+    let start = u32::from(place) * 2;
+    let here = stretch(alloc, start, start + 1)?;
+    let number = u64::from(number);
+    let before = numbers_in(queue, &here, number)?;
+    let now = numbers_in(queue, &here, number + 1)?;
+    Ok(before == [1, 0] && now == [number, 1])
+}
+
+fn numbers_in(queue: &MemQueue, range: &KeyRange, below: u64) -> Result<[u64; 2], Fail> {
+    let parts = queue.parts(range, below)?;
+    Ok(numbers(&parts))
 }
 
 /// The numbers of one or two range deletes; 0 where there is none, or a third.
@@ -452,23 +459,22 @@ fn numbers(parts: &MemParts) -> [u64; 2] {
     }
 }
 
-/// At how many places the narrow range delete is found. Place p has number 1143 p + 2, counted around:
+/// Whether the narrow range delete is found at each place. Place p has number 1143 p + 2, counted around:
 /// 7 times 1143 is 1 more than 4 times 2000.
-fn found(alloc: Global, queue: &MemQueue) -> Result<u32, Fail> {
-    let mut found = 0;
+fn are_found(alloc: Global, queue: &MemQueue) -> Result<bool, Fail> {
     for place in 0..MANY {
-        if is_narrow(alloc, queue, place, u64::from(place * 1143 % MANY) + 2)? {
-            found += 1;
+        if !is_narrow(alloc, queue, place, u32::from(place) * 1143 % 2000 + 2)? {
+            return Ok(false);
         }
     }
-    Ok(found)
+    Ok(true)
 }
 
 #[test]
 fn many_range_deletes(rt: HostRuntime) -> Result<(), Fail> {
     let alloc = rt.alloc();
     let queue = many(alloc)?;
-    let found = found(alloc, &queue)?;
-    assert!(rt; found == MANY && queue.active_ops() == 2001 && queue.greatest() == 2001);
+    let found = are_found(alloc, &queue)?;
+    assert!(rt; found && queue.active_ops() == 2001 && queue.greatest() == 2001);
     Ok(())
 }
