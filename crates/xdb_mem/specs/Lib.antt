@@ -5,3 +5,4 @@ pub mod Held
 pub mod Queue
 pub mod KeptQueue
 pub mod Parts
+pub mod Blocks

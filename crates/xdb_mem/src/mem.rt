@@ -7,6 +7,7 @@ ghost use Rattle.xdb_rangedel.specs.Pieces.{AreFragments, pieces};
 ghost use Rattle.xdb_mem.specs.Numbered.{numbered, greatest_of, RisesWithin, points, spans};
 ghost use Rattle.xdb_mem.specs.InOrder.{AreInOrder, AreNumbered};
 
+use crate::span_list::SpanList;
 use crate::{MemParts, numbering, sorted};
 use std::alloc::{AllocError, Global};
 use std::marker::Model;
@@ -19,7 +20,7 @@ pub struct Mem {
     /// In internal order.
     entries: Vec<Entry>,
     /// In the order of their numbers.
-    spans: Vec<Span>,
+    spans: SpanList,
     /// How many operations there are.
     len: usize,
 }
@@ -31,10 +32,10 @@ impl Model for Mem {
 
     ghost Value = { List (ℕ × Op) };
 
-    ghost view = { λ m. ops_of m.entries.items m.spans.items };
+    ghost view = { λ m. ops_of m.entries.items m.spans };
 
-    ghost invariant = { λ m. IsHeld (ops_of m.entries.items m.spans.items) m.entries.items m.spans.items
-        × (m.len ≡ length (ops_of m.entries.items m.spans.items)) };
+    ghost invariant = { λ m. IsHeld (ops_of m.entries.items m.spans) m.entries.items m.spans
+        × (m.len ≡ length (ops_of m.entries.items m.spans)) };
 }
 
 impl Mem {
@@ -44,7 +45,7 @@ impl Mem {
     {
         Mem {
             entries: Vec::new(alloc),
-            spans: Vec::new(alloc),
+            spans: SpanList::new(alloc),
             len: 0,
         }
     }
@@ -62,9 +63,9 @@ impl Mem {
         let alloc = *self.entries.allocator();
         let ops = batch.ops();
         let entries = numbering::entries(alloc, first, ops)?;
-        let mut spans = numbering::spans(alloc, first, ops)?;
+        let spans = numbering::spans(alloc, first, ops)?;
         self.entries.try_reserve(entries.len())?;
-        self.spans.append(&mut spans)?;
+        self.spans.append(spans)?;
         put_all(&mut self.entries, entries);
         self.len += ops.len();
         Ok(())
@@ -97,6 +98,13 @@ impl Mem {
     pub fn spans(&self) -> &[Span]
         ensures { result.now ≡ spans self.now }
     {
+        self.spans.list()
+    }
+
+    /// The range deletes with their index.
+    pub(crate) fn span_list(&self) -> &SpanList
+        ensures { result.now ≡ spans self.now }
+    {
         &self.spans
     }
 
@@ -113,12 +121,12 @@ impl Mem {
     }
 
     /// Whether an operation numbered below the mark speaks of a key of the range. Keys are found by
-    /// binary search; range deletes are gone through.
+    /// binary search, range deletes by their index.
     pub fn touches(&self, range: &KeyRange, below: u64) -> bool
         ensures { result ≡ list_any (λ o. nat_lt o.0 below && meets (op_hull o.1) range.now) self.now }
     {
         let keys = sorted::in_range(&self.entries, range);
-        any_below(keys, below) || any_meets(&self.spans, range, below)
+        any_below(keys, below) || self.spans.meets(range, below)
     }
 
     /// Whether an operation numbered below the mark speaks of a key in one of the ranges.
@@ -167,12 +175,4 @@ fn any_below(entries: &[Entry], below: u64) -> bool
     ensures { result ≡ list_any (λ p. nat_lt p.seq below) entries.now }
 {
     entries.iter().any(|entry| entry.seq() < below)
-}
-
-fn any_meets(spans: &[Span], range: &KeyRange, below: u64) -> bool
-    ensures { result ≡ list_any (λ t. nat_lt t.seq below && meets t.range range.now) spans.now }
-{
-    spans
-        .iter()
-        .any(|span| span.seq() < below && span.range().meets(range))
 }

@@ -1,10 +1,9 @@
-ghost use Rattle.std.specs.Prelude.{◌≡◌, ◌<◌, ◌≤◌, ◌^◌, [], ◌++◌, length, nat_lt, OnOk, IfOk, OnErr};
-ghost use Rattle.std.specs.List.{filter};
+ghost use Rattle.std.specs.Prelude.{◌≡◌, ◌<◌, ◌^◌, [], ◌++◌, nat_lt, IsTrue, IfSome, OnOk, IfOk};
+ghost use Rattle.std.specs.List.{All, filter};
 ghost use Rattle.std.specs.Option.{option_to_list};
-ghost use Rattle.xdb_key.specs.Bounds.{Bounds};
 ghost use Rattle.xdb_rangedel.specs.Clip.{part_in, later_of, earlier_of};
 ghost use Rattle.xdb_rangedel.specs.Members.{SameMembers};
-ghost use Rattle.xdb_rangedel.specs.Pieces.{AreFragments, pieces};
+ghost use Rattle.xdb_rangedel.specs.Pieces.{AreFragments, pieces, is_ordered};
 ghost use Rattle.xdb_mem.specs.Numbered.{RisesWithin, points, spans};
 ghost use Rattle.xdb_mem.specs.InOrder.{AreInOrder, AreNumbered};
 ghost use Rattle.xdb_mem.specs.KeptQueue.{joined};
@@ -162,33 +161,26 @@ pub fn clipped(
     range: &KeyRange,
     below: u64,
 ) -> Result<Vec<Span>, AllocError>
-    ensures { IfOk result (λ made. made.items ≡ clipped range.now below (joined sealed.now ++ active.now)) }
+    ensures parts { IfOk result (λ made. SameMembers made.items (clipped range.now below (joined sealed.now ++ active.now))) }
+    ensures ordered { IfOk result (λ made. All (λ t. IsTrue (is_ordered t)) made.items) }
 {
     let mut out = Vec::new(alloc);
     for mem in sealed {
-        clip(&mut out, mem, range, below)?;
+        mem.span_list().clip(&mut out, range, below)?;
     }
-    clip(&mut out, active, range, below)?;
+    active.span_list().clip(&mut out, range, below)?;
     Ok(out)
 }
 
-/// Adds the parts of the range deletes of one memtable.
-fn clip(out: &mut Vec<Span>, mem: &Mem, range: &KeyRange, below: u64) -> Result<(), AllocError>
-    ensures { OnOk result (out.new.items ≡ out.old.items ++ clipped range.now below mem.now) }
-{
-    for span in mem.spans() {
-        add_part(out, span, range, below)?;
-    }
-    Ok(())
-}
-
-fn add_part(
+/// Adds what the span has in the range, where its number is below the limit.
+pub fn add_part(
     out: &mut Vec<Span>,
     span: &Span,
     range: &KeyRange,
     below: u64,
 ) -> Result<(), AllocError>
-    ensures { OnOk result (out.new.items ≡ out.old.items ++ option_to_list (part_below range.now below span.now)) }
+    ensures part { OnOk result (out.new.items ≡ out.old.items ++ option_to_list (part_below range.now below span.now)) }
+    ensures ordered { OnOk result (All (λ t. IsTrue (is_ordered t)) out.old.items → All (λ t. IsTrue (is_ordered t)) out.new.items) }
 {
     if span.seq() < below {
         if let Some(part) = part(span, range)? {
@@ -200,7 +192,8 @@ fn add_part(
 
 /// What the span has in the range.
 fn part(span: &Span, range: &KeyRange) -> Result<Option<Span>, AllocError>
-    ensures { IfOk result (λ part. part ≡ part_in range.now span.now) }
+    ensures part { IfOk result (λ part. part ≡ part_in range.now span.now) }
+    ensures ordered { IfOk result (λ part. IfSome part (λ t. IsTrue (is_ordered t))) }
 {
     if !span.range().meets(range) {
         return Ok(None);

@@ -7,6 +7,8 @@ use Rattle.xdb_mem.specs.Queue.{groups, all_ops}
 use Rattle.xdb_mem.specs.KeptQueue.{joined}
 use Rattle.xdb_mem.specs.Parts.{picked, clipped}
 use Rattle.xdb_mem.proofs.NumberLaws.{rises-wider}
+use Rattle.xdb_mem.proofs.HeldLaws.{same_then}
+use Rattle.xdb_mem.proofs.PieceLaws.{pieces_same}
 use Rattle.xdb_mem.proofs.QueueLaws.{all_ops-queue_of}
 use Rattle.xdb_mem.proofs.ContentLaws.{both-ok, parts-content}
 use Rattle.xdb_mem.proofs.queue.MemQueue.parts.Goals as goal
@@ -32,9 +34,11 @@ spans_known c =
     let a = c.self.inside.active in
     let same : joined c.deref-2.result.now ++ a ≡ all_ops (groups c.args.self.now) =
     ap (λ ms. joined ms ++ a) c.deref-2.ensures.value ∙ sym (all_ops-queue_of c.self.inside.oldest c.self.inside.sealed.items a c.self.inside.greatest) ∙ ap (λ q. all_ops (groups q)) c.self.view_is in
-    let found = c.deref-3.ensures.value ∙ c.in_ok-spans.ensures ∙ ap (clipped c.args.range.now c.args.below) same in
-    IfOk-weaker c.new.result (λ parts. SameMembers parts.spans (pieces c.deref-3.result.now)) (λ parts. SameMembers parts.spans (pieces (clipped c.args.range.now c.args.below (all_ops (groups c.args.self.now)))))
-    (λ parts h. subst (λ ts. SameMembers parts.spans (pieces ts)) found h) c.new.ensures.spans
+    let all = clipped c.args.range.now c.args.below (all_ops (groups c.args.self.now)) in
+    let found = subst (λ os. SameMembers c.in_ok-spans.spans.items (clipped c.args.range.now c.args.below os)) same c.in_ok-spans.ensures.parts in
+    let cut = pieces_same c.in_ok-spans.spans.items all found c.in_ok-spans.ensures.ordered in
+    IfOk-weaker c.new.result (λ parts. SameMembers parts.spans (pieces c.deref-3.result.now)) (λ parts. SameMembers parts.spans (pieces all))
+    (λ parts h. same_then parts.spans (pieces c.in_ok-spans.spans.items) (pieces all) (subst (λ ts. SameMembers parts.spans (pieces ts)) c.deref-3.ensures.value h) cut) c.new.ensures.spans
 
 pub returns-clause-entries : goal.returns-clause-entries
 returns-clause-entries c = entries_known c
