@@ -1,7 +1,9 @@
 -- What is seen of files in memory, and of the devices that keep them.
-use Rattle.std.specs.Prelude.{ℕ, Some, None, List, [], ◌∷◌, ◌++◌, refl}
+use Rattle.std.specs.Prelude.{◌≡◌, ◌⊎◌, ℕ, Some, None, List, [], ◌∷◌, ◌++◌, Result, IsErrOf, refl}
 use Rattle.std.specs.FinMap as map
 use Rattle.std.specs.Coded.{Coded, code_by, coded×, coded_ℕ, coded_list}
+use Rattle.xdb_device.specs.declared.fault.DevNo.{DevNo}
+use Rattle.xdb_device.specs.declared.fault.DevNo.TheVariants.{Failed, Memory}
 use Rattle.xdb_device.specs.Schedule.{Calls}
 use Rattle.xdb_device.specs.Told.{Held, Told}
 
@@ -31,6 +33,10 @@ made num bytes k = record { creations = k.creations ++ num ∷ []; removals = k.
 -- the number was listed among those removed, and stands for nothing
 abbrev pub taken_out : ℕ → Kept → Kept
 taken_out num k = record { creations = k.creations; removals = k.removals ++ num ∷ []; holds = map.remove k.holds num }
+
+-- The call failed, or it had no memory and kept nothing.
+abbrev pub FailsOrKeepsNothing : {F : Type 0} → Result F DevNo → Kept → Kept → Type 0
+FailsOrKeepsNothing result old new = IsErrOf result Failed ⊎ (IsErrOf result Memory × (new ≡ old))
 
 -- It tells all but numbers that were given up: it knows of none.
 abbrev pub told_of : Kept → Told

@@ -1,7 +1,7 @@
 // Devices that keep their files in memory.
 ghost use Rattle.std.specs.Prelude.{◌≡◌, ◌++◌, ◌+◌, ◌≤◌, ◌⊎◌, ◌↔◌, length, take, drop, IfOk, OnOk, OnErr, IsErr, IsErrOf, IsTrue};
 ghost use Rattle.xdb_device.specs.Schedule.{fails_next, after_call};
-ghost use Rattle.xdb_device.specs.Store.{listed, made, taken_out};
+ghost use Rattle.xdb_device.specs.Store.{listed, made, taken_out, FailsOrKeepsNothing};
 
 use crate::schedule::Schedule;
 use crate::store::{MemFile, Store};
@@ -118,6 +118,7 @@ impl Device for MemDevice {
     fn create(&mut self, num: u64, bytes: &[u8]) -> Result<MemFile, DevNo>
         ensures failed { IsErrOf result DevNo.Failed → IsTrue (fails_next self.old.calls) }
         ensures exact { IsTrue (fails_next self.old.calls) → IsErr result }
+        ensures exact_kept { IsTrue (fails_next self.old.calls) → FailsOrKeepsNothing result self.old.kept self.new.kept }
         ensures counted { self.new.calls ≡ after_call self.old.calls }
 
         ensures file { IfOk result (λ file. file ≡ bytes.now) }

@@ -19,6 +19,8 @@ pub trait Source {
         requires { 1 ≤ most }
         ensures later { faults self.old ≤ faults self.new }
         ensures failed { IsErrOf result DevNo.Failed → Rose (faults self.old) (faults self.new) }
+        ensures still { OnOk result (faults self.new ≡ faults self.old) }
+        ensures still_memory { IsErrOf result DevNo.Memory → faults self.new ≡ faults self.old }
 
         ensures grew { IfOk result (λ n. Grew n out.old.items out.new.items × (n ≤ most)) }
         ensures taken { OnOk result (prepend_known out.new.items (left self.new) ≡ prepend_known out.old.items (left self.old)) }
@@ -40,6 +42,8 @@ pub trait Sink {
         requires { 1 ≤ length bytes.now }
         ensures later { faults self.old ≤ faults self.new }
         ensures failed { IsErrOf result DevNo.Failed → Rose (faults self.old) (faults self.new) }
+        ensures still { OnOk result (faults self.new ≡ faults self.old) }
+        ensures still_memory { IsErrOf result DevNo.Memory → faults self.new ≡ faults self.old }
 
         ensures count { IfOk result (λ n. (1 ≤ n) × (n ≤ length bytes.now)) }
         ensures appended { IfOk result (λ n. written self.new ≡ append_known (written self.old) (take n bytes.now)) }
@@ -52,6 +56,8 @@ pub trait Sink {
 pub fn read_up_to<S: Source>(source: &mut S, out: &mut Vec<u8>, most: usize) -> Result<usize, DevNo>
     ensures later { S.faults source.old ≤ S.faults source.new }
     ensures failed { IsErrOf result DevNo.Failed → Rose (S.faults source.old) (S.faults source.new) }
+    ensures still { OnOk result (S.faults source.new ≡ S.faults source.old) }
+    ensures still_memory { IsErrOf result DevNo.Memory → S.faults source.new ≡ S.faults source.old }
 
     ensures grew { IfOk result (λ n. Grew n out.old.items out.new.items × (n ≤ most)) }
     ensures front { take (length out.old.items) out.new.items ≡ out.old.items }
@@ -82,6 +88,8 @@ pub struct ShortWrite {
 pub fn write_all<K: Sink>(sink: &mut K, bytes: &[u8]) -> Result<(), ShortWrite>
     ensures later { K.faults sink.old ≤ K.faults sink.new }
     ensures failed { IfErr result (λ e. e.cause ≡ DevNo.Failed → Rose (K.faults sink.old) (K.faults sink.new)) }
+    ensures still { OnOk result (K.faults sink.new ≡ K.faults sink.old) }
+    ensures still_memory { IfErr result (λ e. e.cause ≡ DevNo.Memory → K.faults sink.new ≡ K.faults sink.old) }
 
     ensures written { OnOk result (K.written sink.new ≡ append_known (K.written sink.old) bytes.now) }
     ensures short { IfErr result (λ e. (e.count < length bytes.now) × (K.written sink.new ≡ append_known (K.written sink.old) (take e.count bytes.now))) }

@@ -3,7 +3,7 @@ ghost use Rattle.std.specs.Prelude.{◌≡◌, ◌+◌, ◌*◌};
 
 use crate::laws::{what_was_home, what_was_put};
 use crate::{Desk, Hand, Work, order};
-use std::alloc::AllocError;
+use std::alloc::{AllocError, Global};
 use std::marker::{Model, PhantomData};
 use std::test::Fail;
 use std::thread;
@@ -30,14 +30,21 @@ fn double_elsewhere(rt: &impl Threads, hand: Hand<Doubling>) -> Result<(), Alloc
     Ok(())
 }
 
+// Whether the desk finds what was delivered in another thread, once.
+fn crosses(
+    rt: &impl Threads,
+    (mut desk, hand): (Desk<Doubling>, Hand<Doubling>),
+) -> Result<bool, AllocError> {
+    let early = desk.collect().is_some();
+    double_elsewhere(rt, hand)?;
+    let given = *desk.given() == 21;
+    Ok(!early && given && desk.collect() == Some(42) && desk.collect().is_none())
+}
+
 #[test]
 fn result_crosses_threads(rt: HostRuntime) -> Result<(), Fail> {
-    let (mut desk, hand) = order::<Doubling>(rt.alloc(), 21)?;
-    assert_eq!(rt; desk.collect(), None, "before delivery");
-    double_elsewhere(&rt, hand)?;
-    assert_eq!(rt; *desk.given(), 21);
-    assert_eq!(rt; desk.collect(), Some(42));
-    assert_eq!(rt; desk.collect(), None, "after it was collected");
+    let right = crosses(&rt, order::<Doubling>(rt.alloc(), 21)?)?;
+    assert!(rt; right);
     Ok(())
 }
 
@@ -50,17 +57,20 @@ fn both_cross<R: Threads + Sync, W: Work>(
     thread::join(rt, move || desk, move || hand)
 }
 
+// Looks while the hand delivers, and once more.
+fn looks<R: Threads + Sync>(
+    rt: &R,
+    (mut desk, hand): (Desk<Doubling>, Hand<Doubling>),
+) -> (Option<u64>, Option<u64>) {
+    let (early, ()) = thread::join(rt, || desk.collect(), move || double(hand));
+    (early, desk.collect())
+}
+
 #[test]
 fn one_look_finds_it_in_any_schedule(rt: HostRuntime) -> Result<(), Fail> {
     let (desk, hand) = order::<Doubling>(rt.alloc(), 5)?;
-    let (mut desk, hand) = both_cross(&rt, desk, hand);
-    let (early, ()) = thread::join(&rt, || desk.collect(), move || double(hand));
-    let late = desk.collect();
-    assert!(rt;
-        early.is_none() != late.is_none(),
-        "one of both looks finds it"
-    );
-    assert_eq!(rt; early.or(late), Some(10));
+    let (early, late) = looks(&rt, both_cross(&rt, desk, hand));
+    assert!(rt; early.is_none() != late.is_none() && early.or(late) == Some(10));
     Ok(())
 }
 
@@ -68,7 +78,38 @@ fn one_look_finds_it_in_any_schedule(rt: HostRuntime) -> Result<(), Fail> {
 fn an_unused_hand_delivers_nothing(rt: HostRuntime) -> Result<(), Fail> {
     let (mut desk, hand) = order::<Doubling>(rt.alloc(), 1)?;
     drop(hand);
-    assert_eq!(rt; desk.collect(), None);
+    let nothing = desk.collect().is_none();
+    assert!(rt; nothing);
+    Ok(())
+}
+
+// Desks whose orders were all delivered: the numbers from 0 on, doubled.
+fn delivered(alloc: Global, orders: u32) -> Result<Vec<Desk<Doubling>>, AllocError> {
+    let mut desks = Vec::new(alloc);
+    for given in 0..orders {
+        let (desk, hand) = order::<Doubling>(alloc, given)?;
+        double(hand);
+        desks.push(desk)?;
+    }
+    Ok(desks)
+}
+
+// Whether each desk finds its own result, and no second one.
+fn all_found(desks: &mut Vec<Desk<Doubling>>) -> bool {
+    for desk in desks.iter_mut() {
+        let want = 2 * u64::from(*desk.given());
+        if desk.collect() != Some(want) || desk.collect().is_some() {
+            return false;
+        }
+    }
+    true
+}
+
+#[test]
+fn four_thousand_orders_at_once(rt: HostRuntime) -> Result<(), Fail> {
+    let mut desks = delivered(rt.alloc(), 4_000)?;
+    let right = all_found(&mut desks) && desks.len() == 4_000;
+    assert!(rt; right);
     Ok(())
 }
 
@@ -156,17 +197,23 @@ impl<F: Drop + Send + Sync> Question<F> {
     }
 }
 
+fn question_is<F: Drop + Send + Sync>(
+    rt: &impl Threads,
+    (desk, hand): (Desk<Raising<F>>, Hand<Raising<F>>),
+) -> bool {
+    let mut question = Question::new(desk);
+    let early = question.arrived();
+    thread::join(rt, move || raise(hand), || ());
+    !early && question.arrived() && question.answer() == Some(7)
+}
+
 #[test]
 fn a_desk_lies_in_a_question_over_any_file(rt: HostRuntime) -> Result<(), Fail> {
     let given = Parts {
         number: 6,
         file: String::new(rt.alloc()),
     };
-    let (desk, hand) = order::<Raising<String>>(rt.alloc(), given)?;
-    let mut question = Question::new(desk);
-    assert!(rt; !question.arrived());
-    thread::join(&rt, move || raise(hand), || ());
-    assert!(rt; question.arrived());
-    assert_eq!(rt; question.answer(), Some(7));
+    let right = question_is(&rt, order::<Raising<String>>(rt.alloc(), given)?);
+    assert!(rt; right);
     Ok(())
 }

@@ -3,7 +3,6 @@ ghost use Rattle.xdb_device.specs.Counted.{Counted};
 ghost use Rattle.xdb_device.specs.Faults.{Rose};
 ghost use Rattle.xdb_device.specs.Told.{Removed};
 
-use super::same;
 use crate::{DevNo, Device, FaultBook, FaultShare, MemDevice, Reader, Rig, SureDevice, read_whole};
 use std::alloc::Global;
 use std::marker::Brand;
@@ -58,28 +57,28 @@ fn fail_twice<L: Ledger>(
     let mut dev = MemDevice::new(alloc, [2, 4].to_vec(alloc)?);
     let mut rig = Rig::new(&mut dev, first);
     let file = rig.create(7, b"seven")?;
-    same(rt, length_read(&mut rig, &file, alloc), Err(DevNo::Failed));
-    assert_eq!(rt; rig.risen(), 1);
-    assert_eq!(rt; rig.spent(), 0);
+    assert!(rt; length_read(&mut rig, &file, alloc) == Err(DevNo::Failed));
+    assert!(rt; rig.risen() == 1);
+    assert!(rt; rig.spent() == 0);
     book.charge(&mut rig);
-    same(rt, rig.spent(), 1);
+    assert!(rt; rig.spent() == 1);
 
     let mut outer = Rig::new(&mut rig, second);
-    same(rt, length_read(&mut outer, &file, alloc), Ok(5));
-    same(rt, outer.remove(7), Err(DevNo::Failed));
-    assert_eq!(rt; outer.risen(), 1);
-    assert_eq!(rt; outer.spent(), 0);
+    assert!(rt; length_read(&mut outer, &file, alloc) == Ok(5));
+    assert!(rt; outer.remove(7) == Err(DevNo::Failed));
+    assert!(rt; outer.risen() == 1);
+    assert!(rt; outer.spent() == 0);
     book.charge(&mut outer);
-    same(rt, outer.removal().copied(), Some((7, Err(DevNo::Failed))));
+    assert!(rt; outer.removal().copied() == Some((7, Err(DevNo::Failed))));
     let second = outer.into_share();
 
-    same(rt, rig.risen(), 2);
-    same(rt, rig.remove(7), Ok(()));
-    same(rt, rig.removal().copied(), Some((7, Ok(()))));
+    assert!(rt; rig.risen() == 2);
+    assert!(rt; rig.remove(7) == Ok(()));
+    assert!(rt; rig.removal().copied() == Some((7, Ok(()))));
     let mut shares = Vec::new(alloc);
     shares.push(rig.into_share())?;
     shares.push(second)?;
-    same(rt, dev.calls(), 5);
+    assert!(rt; dev.calls() == 5);
     Ok(shares)
 }
 
@@ -91,9 +90,9 @@ fn run<L: Ledger>(rt: &impl Abort, alloc: Global, blank: Blank) -> Result<(), Fa
     let (mut book, mut shares) = FaultBook::<L>::split(alloc, blank, 2)?;
     if let (Some(first), Some(second)) = (shares.pop(), shares.pop()) {
         let (answer, first) = clear_through(&mut SureDevice::new(alloc), first, 7);
-        same(rt, answer, Ok(()));
+        assert!(rt; answer == Ok(()));
         let shares = fail_twice(rt, alloc, &mut book, first, second)?;
-        assert_eq!(rt; shares.len(), 2);
+        assert!(rt; shares.len() == 2);
         book.sum(shares);
     }
     Ok(())
