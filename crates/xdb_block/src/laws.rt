@@ -8,7 +8,7 @@ ghost use Rattle.xdb_block.specs.Reading.{block_at};
 ghost use Rattle.xdb_block.specs.Rows.{Row, Follow, is_apart};
 ghost use Rattle.xdb_block.specs.Spelling.{IsBlock, block_bytes};
 
-/// What is spelled is read again, for any restart interval.
+/// What is spelled is read again, for any restart interval from 1 on.
 pub fn block_is_read_again()
     ensures { (interval : ℕ) (kind : BlockKind) (rows : List Row) → 1 ≤ interval → IsBlock interval kind rows → block_at interval kind (block_bytes interval rows) ≡ Ok rows }
 {}

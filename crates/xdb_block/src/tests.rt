@@ -248,7 +248,7 @@ fn long_point(alloc: Global) -> Result<BlockWriter, Fail> {
     Ok(writer)
 }
 
-/// The longest value that an operation may have, and one byte more, which a block may have too.
+/// The longest value that an operation may have. A block has no limit of its own for it.
 #[test]
 fn a_value_of_65536_bytes(rt: HostRuntime) -> Result<(), Fail> {
     let bytes = long_point(rt.alloc())?.finish()?;
@@ -256,6 +256,43 @@ fn a_value_of_65536_bytes(rt: HostRuntime) -> Result<(), Fail> {
     assert!(rt; bytes.len() == 5 + 9 + 65_536 + 8);
     let block = Block::parse(bytes, BlockKind::Point)?;
     assert!(rt; block.len() == 1 && block.value(0).len() == 65_536);
+    Ok(())
+}
+
+/// A block of one row.
+fn one_row(alloc: Global, key: &[u8], value: &[u8]) -> Result<Vec<u8>, Fail> {
+    let mut writer = BlockWriter::new(alloc, 16);
+    writer.add(key, value)?;
+    Ok(writer.finish()?)
+}
+
+fn is_read(alloc: Global, kind: BlockKind, key: &[u8], value: &[u8]) -> Result<bool, Fail> {
+    let bytes = one_row(alloc, key, value)?;
+    Ok(Block::parse(bytes, kind).is_ok())
+}
+
+/// Whether a row is read whose user key has so many letters, and its value as many as are said.
+fn is_row(alloc: Global, kind: BlockKind, user: usize, value: usize) -> Result<bool, Fail> {
+    let code = if kind == BlockKind::Spans { 15 } else { 1 };
+    let key = internal(alloc, &vec![in alloc; b'a'; user]?, 1, code)?;
+    is_read(alloc, kind, &key, &vec![in alloc; b'b'; value]?)
+}
+
+#[test]
+fn keys_and_bounds_at_their_limits(rt: HostRuntime) -> Result<(), Fail> {
+    for (kind, user, value, wanted) in [
+        (BlockKind::Point, 0, 1, false),
+        (BlockKind::Point, 1024, 1, true),
+        (BlockKind::Point, 1025, 1, false),
+        (BlockKind::Spans, 1025, 1, true),
+        (BlockKind::Spans, 1026, 1, false),
+        (BlockKind::Spans, 1, 0, false),
+        (BlockKind::Spans, 1, 1025, true),
+        (BlockKind::Spans, 1, 1026, false),
+    ] {
+        let read = is_row(rt.alloc(), kind, user, value)?;
+        assert!(rt; read == wanted, "{kind:?} {user} {value}");
+    }
     Ok(())
 }
 

@@ -79,12 +79,17 @@ fn no_operations(rt: HostRuntime) {
     assert!(rt; is_refused(rt.alloc(), &[], ExtNo::EmptyTable));
 }
 
+/// Two points of one key.
+fn push_c(alloc: Global, ops: &mut Vec<Op>) -> Result<(), Fail> {
+    ops.push(set(alloc, b"c", b"2")?)?;
+    ops.push(del(alloc, b"c")?)?;
+    Ok(())
+}
+
 /// The last operation is a point of the key before it.
 fn out_of_order(alloc: Global) -> Result<Vec<Op>, Fail> {
     let mut ops = spans_and_a_point(alloc)?;
-    for op in [set(alloc, b"c", b"2")?, del(alloc, b"c")?] {
-        ops.push(op)?;
-    }
+    push_c(alloc, &mut ops)?;
     Ok(ops)
 }
 
