@@ -154,9 +154,11 @@ fn batches_have_their_bytes(rt: HostRuntime) -> Result<(), Fail> {
 }
 
 /// The first number that the bytes have, and how many operations.
-fn read(alloc: Global, bytes: &[u8]) -> Result<(u64, usize), Fail> {
-    let (first, batch) = Batch::from_bytes(alloc, bytes)?;
-    Ok((first, batch.ops().len()))
+fn read(alloc: Global, bytes: &[u8]) -> Option<(u64, usize)> {
+    match Batch::from_bytes(alloc, bytes) {
+        Ok((first, batch)) => Some((first, batch.ops().len())),
+        Err(_) => None,
+    }
 }
 
 #[test]
@@ -167,9 +169,8 @@ fn batches_are_read_again(rt: HostRuntime) -> Result<(), Fail> {
         (THREE, (1 << 56) - 3, 3),
     ];
     for (bytes, first, count) in rows {
-        let read = read(rt.alloc(), bytes)?;
         let defect = defect(rt.alloc(), bytes)?;
-        assert!(rt; read == (first, count) && defect.is_none());
+        assert!(rt; read(rt.alloc(), bytes) == Some((first, count)) && defect.is_none());
     }
     Ok(())
 }
