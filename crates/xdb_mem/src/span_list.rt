@@ -46,6 +46,10 @@ impl SpanList {
         ensures added { OnOk result (self.new ≡ self.old ++ more.items) }
         ensures unchanged { OnErr result (self.new ≡ self.old) }
     {
+        // Most commits have none.
+        if more.is_empty() {
+            return Ok(());
+        }
         let before = self.list.len();
         self.list.append(&mut more)?;
         match index::extend(&mut self.index, &self.list, before) {
