@@ -1,1 +1,3 @@
+mod CauseLaws
+pub mod ExitLaws
 pub mod TopLaws

@@ -1,17 +1,10 @@
 -- From the parts of a call to what it has read and written.
-use Rattle.std.proofs.Common.{◌≡◌, ℕ, ◌+◌, ◌<◌, ◌≤◌, Bool, true, false, cond, not, ltb, ◌&&◌, List, [], ◌∷◌, length, take, Option, Some, None, Result, Ok, Err, refl, sym, ap, subst, ◌∙◌, inl, inr, arith}
-use Rattle.std.specs.List.{find, list_all}
+use Rattle.std.proofs.Common.{◌≡◌, ℕ, ◌+◌, ◌<◌, ◌≤◌, List, [], length, take, Option, Some, None, Result, Ok, Err, refl, sym, ap, subst, ◌∙◌, inl, inr, arith}
 use Rattle.std.specs.Option.{option_map}
 use Rattle.std.specs.Io.KnownBytes.{Appends, Consumes, IsAtEnd, prepend_known, append_known}
-use Rattle.std.proofs.lemmas.Bool.{and_parts, and_from, cases_lt, false≢true}
+use Rattle.std.proofs.lemmas.Bool.{cases_lt}
 use Rattle.xdb_device.specs.Streams.{Grew}
-use Rattle.xdb_plain.specs.declared.script.Cmd.{Cmd}
-use Rattle.xdb_plain.specs.declared.script.Cmd.TheVariants as cmd
 use Rattle.xdb_plain.specs.declared.script.Line.{Line}
-use Rattle.xdb_plain.specs.Scripts.{suits, tables_below, are_lines}
-use Rattle.xdb_plain.specs.Steps.{is_client}
-use Rattle.xdb_plain.specs.Tables.{TableOps}
-use Rattle.xdb_plain.specs.declared.act.By.{By}
 use Rattle.xdb_script.specs.Defects.{script_read}
 use Rattle.xdb_script.specs.Grammar.{Spells, most_bytes}
 use Rattle.xdb_script.specs.Whole.{IsAnswer}
@@ -20,7 +13,6 @@ use Rattle.xdb_script.specs.declared.error.ScriptNo.TheVariants.{BadLine}
 use Rattle.xdb_script.specs.declared.error.Why.{Why}
 use Rattle.xdb_script.specs.declared.error.Why.TheVariants as why
 use Rattle.xdb_script.specs.declared.form.ScriptForm.TheVariants.{Run}
-use Rattle.xdb_run.specs.Built.{first_unbuilt}
 use Rattle.excisedb.specs.Ends.{run_words, usage_text, refusal_text, refused, AreRead, IsReply, IsRefusal, IsUsage, IsAnswered, MayWrite, Ends}
 use Rattle.excisedb.specs.Outcome.{Replies, RepliesTo, IsSent}
 use Rattle.excisedb.specs.declared.status.Status.{Status}
@@ -57,6 +49,7 @@ are-read left left' before bytes n none taken grew most ended =
     let empty : length before ≡ 0 = ap length none in
     record {
       consumed = consumes left left' bytes (taken ∙ ap (λ xs. prepend_known xs left) none);
+      within = omega (arith, by, empty, most);
       whole = elim (cases_lt n (most_bytes + 1)) [ inl less ↦ inl (ended less) | inr full ↦ inr (omega arith) ];
     }
 

@@ -50,6 +50,7 @@ refused (Ok lines) = option_map (λ line. (line, why.Verb)) (first_unbuilt lines
 -- The bytes read: all that were left, or the first 1,048,577 of them.
 pub record AreRead (left left' : Option (List ℕ)) (bytes : List ℕ) : Type 0 where
   pub consumed : Consumes left left' bytes
+  pub within : length bytes ≤ most_bytes + 1
   pub whole : IsAtEnd left' ⊎ (length bytes ≡ most_bytes + 1)
 
 -- The text is that of a history which is right and is a run of the script that the bytes spell.

@@ -1,5 +1,5 @@
 //! From words and a script to what is written.
-ghost use Rattle.std.specs.Prelude.{◌≡◌, ◌≢◌, map, string_bytes, vec_len, IfOk, IsTrue};
+ghost use Rattle.std.specs.Prelude.{◌≡◌, ◌≢◌, ◌<◌, map, string_bytes, vec_len, IfOk, IsTrue};
 ghost use Rattle.xdb_device.specs.Faults.{Rose};
 ghost use Rattle.excisedb.specs.Ends.{run_words, usage_text, refusal_text, why_word, Ends};
 ghost use Rattle.excisedb.specs.Outcome.{Replies, RepliesTo, IsSent};
@@ -33,9 +33,11 @@ pub fn top<S: Source, K: Sink, D: Device>(
     // What was read and written, by the status.
     ensures ends { Ends result (map string_bytes words.now) (S.left script.old) (S.left script.new) (K.written out.old) (K.written out.new) }
 
-    // Faults are told only where they came about.
+    // Faults are told only where they came about, and everywhere there.
     ensures read_fault { result ≡ Status.ReadFault → Rose (S.faults script.old) (S.faults script.new) }
+    ensures read_failed { S.faults script.old < S.faults script.new → result ≡ Status.ReadFault }
     ensures write_fault { result ≡ Status.WriteFault → Rose (K.faults out.old) (K.faults out.new) }
+    ensures write_failed { K.faults out.old < K.faults out.new → result ≡ Status.WriteFault }
 
     // Other words leave the source alone.
     ensures alone { map string_bytes words.now ≢ run_words → script.new ≡ script.old }
@@ -139,6 +141,7 @@ fn why_word(why: Why) -> &'static [u8]
 fn send<K: Sink>(out: &mut K, text: &[u8], status: Status) -> Status
     ensures sent { IsSent status text.now (K.written out.old) (K.written out.new) result }
     ensures fault { result ≡ Status.WriteFault → status ≢ Status.WriteFault → Rose (K.faults out.old) (K.faults out.new) }
+    ensures failed { K.faults out.old < K.faults out.new → result ≡ Status.WriteFault }
 {
     match write_all(out, text) {
         Ok(()) => status,

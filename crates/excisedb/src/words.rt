@@ -1,24 +1,31 @@
 //! The words after the program's name.
-ghost use Rattle.std.specs.Prelude.{◌≡◌, ◌↔◌, IsTrue, map, string_bytes, codes};
+ghost use Rattle.std.specs.Prelude.{◌≡◌, ◌↔◌, IsTrue, IsErr, IsOk, IfOk, drop, map, string_bytes, codes};
+ghost use Rattle.std.specs.Vec.Iter.{into_iter_items};
 ghost use Rattle.excisedb.specs.Ends.{run_words};
+ghost use Rattle.excisedb.specs.Words.{words_of, ArentText, LacksMemory};
 
-use std::alloc::AllocError;
-use std::env;
+use std::alloc::{AllocError, Global};
+use std::env::Args;
+use std::io;
 use std::io::ErrorKind;
-use std::rt::Env;
 
-/// The words that the program was called with, or none where they aren't text. An error is want of memory.
-pub fn given(rt: &(impl Env + AllocGlobal)) -> Result<Option<Vec<String>>, AllocError> {
-    let given = match env::args(rt) {
-        Ok(given) => given,
-        Err(error) if error.kind() == ErrorKind::OutOfMemory => return Err(AllocError),
-        Err(_) => return Ok(None),
-    };
-    let mut words = Vec::new(rt.alloc());
-    for word in given.skip(1) {
-        words.push(word)?;
+/// The words behind the program's name, and no words where they aren't text.
+pub fn given(alloc: Global, args: io::Result<Args>) -> Result<Vec<String>, AllocError>
+    ensures words { IfOk result (λ words. map string_bytes words.items ≡ words_of args) }
+    ensures memory { LacksMemory args → IsErr result }
+    ensures no_text { ArentText args → IsOk result }
+{
+    match args {
+        Ok(args) => behind_name(alloc, args),
+        Err(error) if error.kind() == ErrorKind::OutOfMemory => Err(AllocError),
+        Err(_) => Ok(Vec::new(alloc)),
     }
-    Ok(Some(words))
+}
+
+fn behind_name(alloc: Global, args: Args) -> Result<Vec<String>, AllocError>
+    ensures words { IfOk result (λ words. words.items ≡ drop 1 (into_iter_items args)) }
+{
+    args.skip(1).collect(alloc)
 }
 
 /// Whether the words are the one command.
