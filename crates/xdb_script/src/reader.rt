@@ -18,8 +18,7 @@ use xdb_plain::{Cmd, Line, Script};
 /// The most bytes that a script has.
 const MAX_SCRIPT: usize = 1_048_576;
 
-/// The script that the bytes spell, in one pass over its lines. Names of tables are kept in an ordered set, so
-/// the time is linear in the length, up to the logarithm of the number of tables.
+/// The script that the bytes spell. Names of tables are kept in an ordered set.
 pub fn parse(alloc: Global, bytes: &[u8], form: ScriptForm) -> Result<Script, ScriptNo>
     ensures answers { IsAnswer result (script_read form bytes.now) }
     ensures found { IfOk result (λ script. Spells form bytes.now script) }
