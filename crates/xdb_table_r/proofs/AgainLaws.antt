@@ -3,7 +3,7 @@ use Rattle.std.proofs.Common.{◌≡◌, ℕ, ◌+◌, ◌-◌, ◌^◌, ◌<◌
 use Rattle.std.specs.List.{AllByRecursion, slice_range, flat_map}
 use Rattle.std.specs.Cmp.{tied_itself}
 use Rattle.std.specs.Ordering.{is_eq}
-use Rattle.std.proofs.lemmas.Bool.{and_parts, lt-ltb, le-leb, eq-eqb}
+use Rattle.std.proofs.lemmas.Bool.{and_parts, and_from, lt-ltb, le-leb, eq-eqb}
 use Rattle.std.proofs.lemmas.List.{append-nil, length-append, take_at, drop_at}
 use Rattle.std.proofs.lemmas.List.Concat.{flat_map-cons}
 use Rattle.byteorder.specs.Endian.{little_bytes}
@@ -28,10 +28,6 @@ use Rattle.xdb_table_r.specs.Points.{ends_well, is_behind, stands, block_of, is_
 use Rattle.xdb_table_r.proofs.PointLaws.{block_is}
 use Rattle.xdb_table_r.proofs.GoneLaws.{step, no_more}
 use Rattle.xdb_table_r.proofs.OpeningLaws.{not_zero}
-
-and_true : (a b : Bool) → a ≡ true → b ≡ true → (a && b) ≡ true
-and_true true b h g = g
-and_true false b h g = h
 
 -- ---- a block at its place
 
@@ -83,15 +79,15 @@ tiles at end (b ∷ bs) is small =
     let one = length-part b in
     let all = length-parts b bs in
     let next : at + len + 1 ≡ at + length (part_bytes 16 b) = omega arith in
-    let here : follows_at at end (part at len) ≡ true = and_true _ _ (and_true _ _ (eq-eqb at at refl) (ap not (not_zero len (omega arith)))) (le-leb (at + len + 1) end (omega arith)) in
+    let here : follows_at at end (part at len) ≡ true = and_from _ _ (and_from _ _ (eq-eqb at at refl) (ap not (not_zero len (omega arith)))) (le-leb (at + len + 1) end (omega arith)) in
     let rest = ap (λ n. follow_on n end (index_from 16 (at + length (part_bytes 16 b)) bs)) next ∙ tiles (at + length (part_bytes 16 b)) end bs (omega arith) small in
-    ap (λ p. follows_at at end p && follow_on (behind p) end (index_from 16 (at + length (part_bytes 16 b)) bs)) (handle_reads (last_key [] b) at len (omega arith) (omega arith)) ∙ and_true _ _ here rest
+    ap (λ p. follows_at at end p && follow_on (behind p) end (index_from 16 (at + length (part_bytes 16 b)) bs)) (handle_reads (last_key [] b) at len (omega arith) (omega arith)) ∙ and_from _ _ here rest
 
 -- ---- points
 
 ends : (n : ℕ) (b : List Row) (bs : List (List Row)) → AreCut 16 (b ∷ bs) → ends_well (is_more (index_from 16 n bs)) b ≡ true
-ends n b [] h = and_true _ _ (lt-ltb _ _ h.1) refl
-ends n b (c ∷ bs) h = and_true _ _ (lt-ltb _ _ h.0.0.1) (le-leb _ _ h.0.1)
+ends n b [] h = and_from _ _ (lt-ltb _ _ h.1) refl
+ends n b (c ∷ bs) h = and_from _ _ (lt-ltb _ _ h.0.0.1) (le-leb _ _ h.0.1)
 
 cut_tail : (b : List Row) (bs : List (List Row)) → AreCut 16 (b ∷ bs) → AreCut 16 bs
 cut_tail b [] h = tt
@@ -129,7 +125,7 @@ points_again file pre post at q last (b ∷ bs) is starts each cut order tied sm
     let range : slice_range file at (behind (part at len)) ≡ part_bytes 16 b = ap (λ y. slice_range y at (at + len + 1)) split ∙ range_mid pre (part_bytes 16 b) (parts 16 bs ++ post) at (at + len + 1) starts (omega arith) in
     let read = part_reads kinds.Point b file at each.0 range in
     let whole = subst (Follow kinds.Point last) (joined-cons b bs) order in
-    let stood : stands q (is_more rest) x b ≡ true = and_true _ _ (and_true _ _ (ap is_eq (tied_itself key_total (last_key [] b))) (behind_is q last b (joined bs) each.0.some tied whole)) (ends next b bs cut) in
+    let stood : stands q (is_more rest) x b ≡ true = and_from _ _ (and_from _ _ (ap is_eq (tied_itself key_total (last_key [] b))) (behind_is q last b (joined bs) each.0.some tied whole)) (ends next b bs cut) in
     let block : block_of q (is_more rest) x file ≡ Ok b = block_is file q (is_more rest) x (part at len) (Ok b) (sym (handle_reads (last_key [] b) at len (omega arith) (omega arith))) read ∙ ap (λ t. cond t (Ok b) (Err (handle x).at)) stood in
     let size = length-append pre (part_bytes 16 b) in
     let others = points_again file (pre ++ part_bytes 16 b) post next (Some x) (last_of last b) bs moved (omega arith) each.1 (cut_tail b bs cut) (follow_append kinds.Point last b (joined bs) whole).1 (tied_next last b (handle_bytes at len) each.0.some) (omega arith) in

@@ -1,6 +1,6 @@
 -- The spans of a view: within its range, and their own pieces.
 use Rattle.std.proofs.Common.{◌≡◌, ℕ, Bool, true, false, not, ◌&&◌, cond, List, [], ◌∷◌, ◌++◌, map, Option, Some, None, IfSome, Ok, IsOkAnd, IsTrue, refl, sym, ap, ◌∙◌, subst, inl, inr}
-use Rattle.std.proofs.lemmas.Bool.{cases_Bool, and_parts}
+use Rattle.std.proofs.lemmas.Bool.{and_from, cases_Bool, and_parts}
 use Rattle.xdb_key.proofs.OrderLaws.{upto-itself, upto-not_below, below-successor}
 use Rattle.xdb_key.specs.Bounds.{Bounds, bounds, holds, meets, covers, successor}
 use Rattle.xdb_key.specs.Entries.{Point, Tombstone, tombstone, Reach}
@@ -61,14 +61,10 @@ kept_if : {B : Type 0} (b : Bool) (y z : B) → cond b (Some y) None ≡ Some z 
 kept_if true y z e = cc
 kept_if false y z e = absurd (cc)
 
-and_true : (a b : Bool) → a ≡ true → b ≡ true → (a && b) ≡ true
-and_true true b h g = g
-and_true false b h g = h
-
 part_within : (r : Bounds) (x t : Tombstone) → part_in r x ≡ Some t → covers r t.range ≡ true
 part_within r x t e =
     let is : starting_from r.lo (ending_by r.hi x) ≡ t = kept_if (meets x.range r) (starting_from r.lo (ending_by r.hi x)) t e in
-    subst (λ u. covers r u.range ≡ true) is (and_true _ _ (later_upto r.lo x.range.lo) (earlier_upto r.hi x.range.hi))
+    subst (λ u. covers r u.range ≡ true) is (and_from _ _ (later_upto r.lo x.range.lo) (earlier_upto r.hi x.range.hi))
 
 spans_by : (b : Bool) (r : Bounds) (s : ℕ) (ts : List Tombstone) (t : Tombstone) → Has (cond b (map (span_for s) (parts_in r ts)) []) t → covers r t.range ≡ true
 spans_by false r s ts t h = absurd h
@@ -84,7 +80,7 @@ hull_within : (r : Bounds) (k : List ℕ) → holds r k ≡ true → covers r (b
 hull_within r k h =
     let parts = and_parts _ _ h in
     let end : is_upto (successor k) r.hi ≡ true = upto-not_below (successor k) r.hi ∙ ap not (below-successor r.hi k ∙ upto-not_below r.hi k ∙ ap not parts.1) in
-    and_true _ _ parts.0 end
+    and_from _ _ parts.0 end
 
 pub all_within : (r : Bounds) (s : ℕ) (ps : List Point) (ts made : List Tombstone) → AreSeen r s ps → ((t : Tombstone) → Has made t → Has (spans_in r s ts) t) → (h : Reach) → Has (reaches ps made) h → covers r (bounds h.lo h.hi) ≡ true
 all_within r s ps ts made seen sub h has = elim (Has-append_cases (map point_reach ps) (map span_reach made) h has) [
@@ -96,7 +92,7 @@ pub least_within : (r : Bounds) (hs : List Reach) (e : Reach) → ((h : Reach) �
 least_within r hs e all least =
     let lo = and_parts _ _ (all least.lo.0 least.lo.1) in
     let hi = and_parts _ _ (all least.hi.0 least.hi.1) in
-    and_true _ _ (ap (is_upto r.lo) (sym least.lo.2) ∙ lo.0) (ap (λ x. is_upto x r.hi) (sym least.hi.2) ∙ hi.1)
+    and_from _ _ (ap (is_upto r.lo) (sym least.lo.2) ∙ lo.0) (ap (λ x. is_upto x r.hi) (sym least.hi.2) ∙ hi.1)
 
 pub extent_within : (r : Bounds) (s : ℕ) (ps : List Point) (ts made : List Tombstone) (o : Option Reach) → AreSeen r s ps → SameMembers made (spans_in r s ts) → IsExtentOf (reaches ps made) o → IfSome o (LiesWithin r)
 extent_within r s ps ts made None seen same h = tt

@@ -1,7 +1,7 @@
 -- What a spelled table file opens as.
 use Rattle.std.proofs.Common.{◌≡◌, ℕ, ◌+◌, ◌-◌, ◌^◌, ◌<◌, ◌≤◌, Bool, true, false, not, ◌&&◌, cond, eqb, List, [], ◌∷◌, ◌++◌, length, drop, Some, None, Ok, Err, refl, sym, ap, ◌∙◌, subst, arith, append_assoc}
 use Rattle.std.specs.List.{slice_range}
-use Rattle.std.proofs.lemmas.Bool.{eq-eqb}
+use Rattle.std.proofs.lemmas.Bool.{and_from, eq-eqb}
 use Rattle.std.proofs.lemmas.List.{length-append, drop_at}
 use Rattle.byteorder.specs.Endian.{little_bytes, little_number}
 use Rattle.byteorder.specs.Numbers.{little_number-reads_back, length-bytes_low_first}
@@ -25,10 +25,6 @@ use Rattle.xdb_table_r.proofs.AgainLaws.{range_mid, part_reads, some_bytes, leng
 use Rattle.xdb_table_w.proofs.FollowLaws.{length-index}
 use Rattle.xdb_table_r.proofs.Lists.{range_to_end}
 use Rattle.xdb_table_r.proofs.OpeningLaws.{not_zero, footer_is, rows_none, rows_some, opened_spans}
-
-and_true : (a b : Bool) → a ≡ true → b ≡ true → (a && b) ≡ true
-and_true true b h g = g
-and_true false b h g = h
 
 -- ---- the fields of a footer
 
@@ -100,7 +96,7 @@ module _ (a b c d : ℕ) (sa : a < 2 ^ 64) (sb : b < 2 ^ 32) (sc : c < 2 ^ 64) (
       ∙ drop_at ((((A ++ B) ++ C) ++ D) ++ little_bytes 8 1) name 32 (omega (arith, length-append (((A ++ B) ++ C) ++ D) (little_bytes 8 1), labcd, length-bytes_low_first 0 8 1))
 
   ending_is : is_ending (footer a b c d) ≡ true
-  ending_is = and_true _ _ (eq-eqb _ 1 format_at) (ap (λ x. is_eq (key_cmp x name)) name_at ∙ ap is_eq (tied_itself key_total name))
+  ending_is = and_from _ _ (eq-eqb _ 1 format_at) (ap (λ x. is_eq (key_cmp x name)) name_at ∙ ap is_eq (tied_itself key_total name))
 
   fields : parts_at (footer a b c d) ≡ layout (part a b) (part c d)
   fields =
@@ -113,7 +109,7 @@ module _ (a b c d : ℕ) (sa : a < 2 ^ 64) (sb : b < 2 ^ 32) (sc : c < 2 ^ 64) (
   pub footer_reads : (end : ℕ) → is_laid end (layout (part a b) (part c d)) ≡ true → layout_at end (footer a b c d) ≡ Some (layout (part a b) (part c d))
   footer_reads end laid =
       ap (λ l. cond (is_ending (footer a b c d) && is_laid end l) (Some l) None) fields
-      ∙ ap (λ t. cond t (Some (layout (part a b) (part c d))) None) (and_true _ _ ending_is laid)
+      ∙ ap (λ t. cond t (Some (layout (part a b) (part c d))) None) (and_from _ _ ending_is laid)
 
 -- ---- the layout of a table file
 
@@ -132,18 +128,18 @@ laid_is : (p end : ℕ) (spans rows : List Row) → 1 ≤ length rows + length s
 laid_is p end [] [] some none is = absurd (omega arith)
 laid_is p end (r ∷ rs) [] some none is =
     let size = length-part (r ∷ rs) in
-    and_true _ _ (and_true _ _ (ap not (some_len r rs)) (eq-eqb p 0 (none refl))) (eq-eqb _ end (omega arith))
+    and_from _ _ (and_from _ _ (ap not (some_len r rs)) (eq-eqb p 0 (none refl))) (eq-eqb _ end (omega arith))
 laid_is p end [] (x ∷ xs) some none is =
     let size = length-part (x ∷ xs) in
     let l = lay p [] (x ∷ xs) in
     ap (λ t. cond t (eqb l.index.at 0 && not (eqb l.spans.len 0) && eqb l.spans.at 0 && eqb (behind l.spans) end) (eqb (behind l.index) end && cond (eqb l.spans.len 0) (eqb l.spans.at 0) (eqb (behind l.spans) l.index.at))) (some_len x xs)
-    ∙ and_true _ _ (eq-eqb (behind l.index) end (omega arith)) refl
+    ∙ and_from _ _ (eq-eqb (behind l.index) end (omega arith)) refl
 laid_is p end (r ∷ rs) (x ∷ xs) some none is =
     let size = length-part (x ∷ xs) in
     let first = length-part (r ∷ rs) in
     let l = lay p (r ∷ rs) (x ∷ xs) in
     ap (λ t. cond t (eqb l.index.at 0 && not (eqb l.spans.len 0) && eqb l.spans.at 0 && eqb (behind l.spans) end) (eqb (behind l.index) end && cond (eqb l.spans.len 0) (eqb l.spans.at 0) (eqb (behind l.spans) l.index.at))) (some_len x xs)
-    ∙ and_true _ _ (eq-eqb (behind l.index) end (omega arith)) (ap (λ t. cond t (eqb l.spans.at 0) (eqb (behind l.spans) l.index.at)) (some_len r rs) ∙ eq-eqb (behind l.spans) l.index.at (omega arith))
+    ∙ and_from _ _ (eq-eqb (behind l.index) end (omega arith)) (ap (λ t. cond t (eqb l.spans.at 0) (eqb (behind l.spans) l.index.at)) (some_len r rs) ∙ eq-eqb (behind l.spans) l.index.at (omega arith))
 
 -- ---- blocks
 

@@ -1,6 +1,6 @@
 -- The points of a table, as far as its blocks have been read.
 use Rattle.std.proofs.Common.{◌≡◌, ℕ, zero, suc, ◌+◌, ◌-◌, ◌<◌, ◌≤◌, Bool, true, false, ◌&&◌, cond, eqb, ltb, List, [], ◌∷◌, ◌++◌, length, drop, Option, Some, None, IfSome, Result, Ok, Err, refl, sym, ap, ◌∙◌, subst, arith, inl, inr, append_assoc}
-use Rattle.std.proofs.lemmas.Bool.{and_parts, leb-true, eqb-true, eqb-false, cases_Bool, lt-ltb, le-ltb, ltb-true, ltb-false}
+use Rattle.std.proofs.lemmas.Bool.{and_parts, and_from, leb-true, eqb-true, eqb-false, cases_Bool, lt-ltb, le-ltb, ltb-true, ltb-false}
 use Rattle.std.proofs.lemmas.List.{append-nil, length-append}
 use Rattle.std.proofs.Math.Seq.{drop-cons}
 use Rattle.xdb_key.specs.Bounds.{Bounds}
@@ -102,14 +102,10 @@ abbrev After : Option Row → List Row → Type 0
 After None ys = Unit {0}
 After (Some l) ys = precedes l.key (nth ys 0).key ≡ true
 
-and_true : (a b : Bool) → a ≡ true → b ≡ true → (a && b) ≡ true
-and_true true b h g = g
-and_true false b h g = h
-
 start : (last : Option Row) (ys : List Row) → Follow kinds.Point None ys → After last ys → Follow kinds.Point last ys
 start None ys g p = g
 start (Some l) [] g p = tt
-start (Some l) (y ∷ ys) g p = (and_true _ _ (and_true _ _ g.0 p) refl, g.1)
+start (Some l) (y ∷ ys) g p = (and_from _ _ (and_from _ _ g.0 p) refl, g.1)
 
 join : (last : Option Row) (xs ys : List Row) → Follow kinds.Point last xs → Follow kinds.Point None ys → After (last_of last xs) ys → Follow kinds.Point last (xs ++ ys)
 join last [] ys h g p = start last ys g p

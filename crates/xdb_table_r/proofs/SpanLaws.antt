@@ -1,7 +1,7 @@
 -- The spans of a block are fragments.
 use Rattle.std.proofs.Common.{◌≡◌, ℕ, ◌/◌, ◌%◌, ◌<◌, Bool, true, false, ◌||◌, cond, eqb, ltb, List, [], ◌∷◌, Option, Some, None, IsTrue, refl, sym, ap, ◌∙◌, arith, inl, inr, ◌⊎◌}
 use Rattle.std.specs.List.{AllByRecursion, AllPairs}
-use Rattle.std.proofs.lemmas.Bool.{and_parts, eqb-true, ltb-true, false≢true}
+use Rattle.std.proofs.lemmas.Bool.{and_parts, or_cases, eqb-true, ltb-true, false≢true}
 use Rattle.std.proofs.lemmas.List.Elements.{All-from_recursion}
 use Rattle.std.proofs.lemmas.List.Kept.{AllPairs-cons}
 use Rattle.std.specs.declared.cmp.Ordering.TheVariants.{Less, Equal, Greater}
@@ -31,10 +31,6 @@ span_trans s t u some a b = elim (precedes_tells s t a) [
     | inr apart2 ↦ precedes_apart s u (upto_trans s.range.hi t.range.lo u.range.lo apart (upto_trans t.range.lo t.range.hi u.range.lo (upto_from_below t.range.lo t.range.hi some) apart2))
   ]
 ]
-
-or_cases : (a b : Bool) → (a || b) ≡ true → (a ≡ true) ⊎ (b ≡ true)
-or_cases true b h = inl refl
-or_cases false b h = inr h
 
 less_tells : (x y : ℕ) → is_lt (nat_cmp x y) ≡ true → x < y
 less_tells x y h = by (ltb x y) (eqb x y) refl h where

@@ -1,7 +1,7 @@
 -- What is read as a table file is spelled so.
 use Rattle.std.proofs.Common.{◌≡◌, ℕ, ◌+◌, ◌-◌, ◌^◌, ◌<◌, ◌≤◌, Bool, true, false, not, ◌&&◌, cond, eqb, List, [], ◌∷◌, ◌++◌, length, drop, Option, Some, None, Result, Ok, Err, refl, sym, ap, ◌∙◌, subst, arith, append_assoc}
 use Rattle.std.specs.List.{AllByRecursion}
-use Rattle.std.proofs.lemmas.Bool.{and_parts, eqb-true, leb-true, ltb-true, false≢true}
+use Rattle.std.proofs.lemmas.Bool.{and_parts, and_from, eqb-true, leb-true, ltb-true, false≢true}
 use Rattle.std.proofs.lemmas.List.{length-append}
 use Rattle.std.proofs.lemmas.List.Concat.{flat_map-cons}
 use Rattle.std.proofs.lemmas.List.Folds.{drop_split}
@@ -27,10 +27,6 @@ use Rattle.xdb_table_r.proofs.OpeningLaws.{not_zero}
 use Rattle.xdb_table_r.proofs.RowLaws.{same-tells, all_suit}
 use Rattle.xdb_table_r.proofs.TakenLaws.{TakesPart, part_takes, handle_takes, TakesFooter, footer_takes}
 
-and_true : (a b : Bool) → a ≡ true → b ≡ true → (a && b) ≡ true
-and_true true b h g = g
-and_true false b h g = h
-
 abbrev done : {A : Type 0} → A → Result A ℕ
 done x = Ok x
 
@@ -53,7 +49,7 @@ starts_behind : (q last : Option Row) (b : List Row) → Tied q last → is_behi
 starts_behind q last [] tied behind_is h = tt
 starts_behind None last (r ∷ rs) tied behind_is h = subst (λ o. Follow kinds.Point o (r ∷ rs)) (sym tied) h
 starts_behind (Some q) None (r ∷ rs) tied behind_is h = absurd tied
-starts_behind (Some q) (Some l) (r ∷ rs) tied behind_is h = (and_true _ _ (and_true _ _ h.0 (ap (λ k. precedes k r.key) tied ∙ behind_is)) refl, h.1)
+starts_behind (Some q) (Some l) (r ∷ rs) tied behind_is h = (and_from _ _ (and_from _ _ h.0 (ap (λ k. precedes k r.key) tied ∙ behind_is)) refl, h.1)
 
 follow_join : (last : Option Row) (xs ys : List Row) → Follow kinds.Point last xs → Follow kinds.Point (last_of last xs) ys → Follow kinds.Point last (xs ++ ys)
 follow_join last [] ys h g = g
