@@ -1,10 +1,10 @@
 -- The lines of a script whose verbs are built can be run.
-use Rattle.std.proofs.Common.{◌≡◌, ℕ, ◌+◌, ◌≤◌, Bool, true, false, cond, not, ltb, leb, ◌&&◌, List, [], ◌∷◌, length, map, sum, Option, Some, None, Result, Ok, Err, IfNone, IsOk, refl, sym, ap, ◌∙◌, subst, arith}
+use Rattle.std.proofs.Common.{◌≡◌, ℕ, ◌+◌, ◌≤◌, Bool, true, false, cond, not, ltb, leb, ◌&&◌, List, [], ◌∷◌, length, map, sum, Option, Some, None, Result, Err, IfNone, IsOk, refl, sym, ap, ◌∙◌, subst, arith}
 use Rattle.std.proofs.lemmas.Bool.{and_parts, and_from, false≢true, lt-leb, le-ltb, leb-true}
 use Rattle.std.proofs.lemmas.List.Sums.{sum_by-cons, sum-map}
 use Rattle.std.specs.List.{find, list_all}
 use Rattle.std.specs.Option.{option_map, option_or}
-use Rattle.xdb_batch.specs.Adding.{value_len, refusal_at, first_refusal, refusal_of}
+use Rattle.xdb_batch.specs.Adding.{value_len, first_refusal, refusal_of}
 use Rattle.xdb_batch.specs.declared.error.BatchNo.{BatchNo}
 use Rattle.xdb_batch.specs.declared.error.BatchNo.TheVariants.{ValueTooLong, TooMany, TooLong}
 use Rattle.xdb_key.specs.Ops.{op_len, batch_len}

@@ -1,5 +1,5 @@
 -- What the lines of commits, seals, settles and work add.
-use Rattle.std.proofs.Common.{◌≡◌, ℕ, ◌+◌, ◌≤◌, Bool, true, false, not, ◌&&◌, ◌||◌, cond, eqb, List, [], ◌∷◌, ◌++◌, append-nil, Option, Some, None, Result, Ok, Err, is_some, IfSome, refl, sym, ap, ◌∙◌, subst, IsTrue, inl, inr, arith}
+use Rattle.std.proofs.Common.{◌≡◌, ℕ, ◌≤◌, Bool, true, false, not, ◌||◌, cond, eqb, List, [], ◌∷◌, ◌++◌, append-nil, Option, Some, None, Result, Ok, is_some, IfSome, refl, sym, ap, ◌∙◌, subst, inl, inr, arith}
 use Rattle.std.specs.List.{All}
 use Rattle.std.proofs.lemmas.Bool.{cases_Bool, eqb-true, eq-eqb, or_left, or_right, or_cases, false≢true}
 use Rattle.std.proofs.lemmas.List.Elements.{All-filter}
@@ -12,14 +12,11 @@ use Rattle.xdb_engine.specs.declared.ids.Outcome.TheVariants as outcome
 use Rattle.xdb_engine.specs.Stands.{IsNumbered}
 use Rattle.xdb_key.specs.declared.op.Op.{Op}
 use Rattle.xdb_plain.specs.Counts.{is_among}
-use Rattle.xdb_plain.specs.Legal.{after_all}
-use Rattle.xdb_plain.specs.Runs.{Run, question_waits, is_not_yet, is_no_such, IsNote, IsOne, IsWaited, IsWork, run_after}
-use Rattle.xdb_plain.specs.declared.act.Act.{Act}
+use Rattle.xdb_plain.specs.Runs.{Run, question_waits, is_not_yet, is_no_such, IsWaited}
 use Rattle.xdb_plain.specs.declared.act.Act.TheVariants as act
 use Rattle.xdb_plain.specs.declared.act.By.{By}
 use Rattle.xdb_plain.specs.declared.act.By.TheVariants.{Db}
 use Rattle.xdb_plain.specs.declared.act.CommitForm.{CommitForm}
-use Rattle.xdb_plain.specs.declared.note.Note.{Note}
 use Rattle.xdb_plain.specs.declared.reply.Reply.{Reply}
 use Rattle.xdb_plain.specs.declared.reply.Reply.TheVariants as reply
 use Rattle.xdb_plain.specs.declared.script.Cmd.TheVariants as cmd

@@ -1,10 +1,10 @@
 -- What the line of a question adds, in parts or whole.
-use Rattle.std.proofs.Common.{◌≡◌, ℕ, ◌+◌, ◌<◌, ◌≤◌, Bool, true, false, not, cond, eqb, List, [], ◌∷◌, ◌++◌, Option, Some, None, is_some, IfSome, refl, sym, ap, ◌∙◌, subst, IsTrue, arith}
+use Rattle.std.proofs.Common.{◌≡◌, ℕ, ◌+◌, ◌≤◌, Bool, true, false, eqb, List, [], ◌∷◌, ◌++◌, Option, Some, None, IfSome, refl, sym, ap, ◌∙◌, subst, arith}
 use Rattle.std.specs.List.{All}
-use Rattle.std.proofs.lemmas.Bool.{cases_Bool, eq-eqb, false≢true}
+use Rattle.std.proofs.lemmas.Bool.{eq-eqb, false≢true}
 use Rattle.std.proofs.lemmas.List.Elements.{All-push}
 use Rattle.xdb_lists.proofs.PlaceLaws.{under-none, under-pushed, under-placed, all-placed, all-others}
-use Rattle.xdb_engine.specs.Asks.{Opens, Leaves, IsAsked, IsAskedOf}
+use Rattle.xdb_engine.specs.Asks.{IsAsked, IsAskedOf}
 use Rattle.xdb_engine.specs.Notes.{plain_note}
 use Rattle.xdb_engine.specs.Questions.{Asking, asking, found, without, replaced, looked, settle_act, settle_reply, settle_leaves, failure, failure_leaves}
 use Rattle.xdb_engine.specs.Seen.{Seen, plain_of, Adds, with_questions}
@@ -13,7 +13,7 @@ use Rattle.xdb_key.specs.Groups.{Group}
 use Rattle.xdb_order.specs.Desk.{fresh_story}
 use Rattle.xdb_plain.specs.Counts.{is_among}
 use Rattle.xdb_plain.specs.Printed.{is_asked}
-use Rattle.xdb_plain.specs.Runs.{Run, IsNote, IsRead, IsParted}
+use Rattle.xdb_plain.specs.Runs.{Run}
 use Rattle.xdb_plain.specs.State.{groups}
 use Rattle.xdb_plain.specs.Steps.{asked_number}
 use Rattle.xdb_plain.specs.declared.act.Act.TheVariants as act

@@ -1,13 +1,12 @@
 -- The state that a run and an engine have come to.
-use Rattle.std.proofs.Common.{◌≡◌, ℕ, ◌+◌, ◌≤◌, Bool, true, false, not, ◌&&◌, ◌||◌, eqb, List, [], ◌∷◌, ◌++◌, append-nil, append_assoc, reverse, map, Option, Some, None, is_some, refl, sym, ap, ◌∙◌, subst, arith}
+use Rattle.std.proofs.Common.{◌≡◌, ℕ, ◌≤◌, Bool, true, false, not, ◌&&◌, ◌||◌, eqb, List, [], ◌∷◌, ◌++◌, append-nil, append_assoc, reverse, Option, Some, None, is_some, refl, sym, ap, ◌∙◌, subst, arith}
 use Rattle.std.specs.List.{All, list_all}
 use Rattle.std.proofs.lemmas.Bool.{and_parts}
 use Rattle.std.proofs.lemmas.List.{reverse-append, reverse-reverse}
 use Rattle.std.proofs.lemmas.List.Folds.{list_any-append, list_all-append}
 use Rattle.xdb_lists.proofs.PlaceLaws.{under-number, under-all}
 use Rattle.xdb_engine.proofs.QuestionLaws.{found-plain}
-use Rattle.xdb_engine.specs.Notes.{plain_note}
-use Rattle.xdb_engine.specs.Questions.{Asking, found, heard}
+use Rattle.xdb_engine.specs.Questions.{Asking, found}
 use Rattle.xdb_engine.specs.Seen.{Seen, plain_of, Adds}
 use Rattle.xdb_plain.specs.Changes.{after, asked_after}
 use Rattle.xdb_plain.specs.Counts.{is_among, dead}
@@ -19,7 +18,6 @@ use Rattle.xdb_plain.specs.declared.act.Act.{Act}
 use Rattle.xdb_plain.specs.declared.act.Act.TheVariants as act
 use Rattle.xdb_plain.specs.declared.act.By.{By}
 use Rattle.xdb_plain.specs.declared.note.Note.{Note}
-use Rattle.xdb_plain.specs.declared.reply.Reply.{Reply}
 use Rattle.xdb_plain.specs.declared.script.Cmd.{Cmd}
 use Rattle.xdb_plain.specs.declared.script.Line.{Line}
 use Rattle.xdb_plain.proofs.RunLaws.{blocks-push, behind-push, run-ends}

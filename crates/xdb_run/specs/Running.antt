@@ -1,5 +1,5 @@
 -- How far an engine has come in the run of a script.
-use Rattle.std.specs.Prelude.{◌≡◌, ◌≤◌, ℕ, Bool, true, false, List, ◌++◌, reverse, map, All, Option, Some, None, Result, is_some, IfOk}
+use Rattle.std.specs.Prelude.{◌≡◌, ◌≤◌, ℕ, true, List, ◌++◌, reverse, map, All, Option, Some, None, Result, is_some, IfOk}
 use Rattle.std.specs.declared.alloc.AllocError.{AllocError}
 use Rattle.xdb_engine.specs.Questions.{Asking, heard}
 use Rattle.xdb_engine.specs.Seen.{Seen, plain_of}

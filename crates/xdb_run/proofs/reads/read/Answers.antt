@@ -1,7 +1,7 @@
 -- The question that was opened is the one that is brought, settled, or given up.
-use Rattle.std.proofs.Common.{◌≡◌, ◌≤◌, ◌+◌, ◌∙◌, Bool, false, Option, Some, None, is_some, refl, sym, ap, subst, arith}
-use Rattle.xdb_engine.specs.Questions.{Asking, asking, found, replaced, looked}
-use Rattle.xdb_engine.specs.Seen.{with_questions, IsBrought}
+use Rattle.std.proofs.Common.{◌≡◌, ◌≤◌, ◌+◌, false, None, is_some, refl, ap, subst, arith}
+use Rattle.xdb_engine.specs.Questions.{asking}
+use Rattle.xdb_engine.specs.Seen.{IsBrought}
 use Rattle.xdb_engine.specs.declared.ids.Outcome.TheVariants as outcome
 use Rattle.xdb_order.specs.Desk.{fresh_story}
 use Rattle.xdb_plain.specs.declared.act.By.TheVariants.{Client}
