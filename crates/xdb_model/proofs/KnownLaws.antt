@@ -18,6 +18,7 @@ use Rattle.xdb_plain.specs.declared.act.Act.TheVariants as act
 use Rattle.xdb_plain.specs.declared.note.Note.{Note}
 use Rattle.xdb_plain.specs.declared.reply.Reply.{Reply}
 use Rattle.xdb_plain.specs.declared.reply.Reply.TheVariants as reply
+use Rattle.xdb_model.proofs.LegalLaws.{over-legal}
 use Rattle.xdb_model.proofs.CauseLaws.{took}
 use Rattle.xdb_model.proofs.FileLaws.{file-later, files-step, same-numbers}
 use Rattle.xdb_model.proofs.LoadLaws.{AreNamedOnce, LoadsFree, once-by, free-by, none-open}
@@ -264,8 +265,7 @@ fit-after p note may fit =
     }
 
 pub fit-all : (p : Plain) (notes : List Note) → Legal p notes → Fit p → Fit (after_all p notes)
-fit-all p [] legal fit = fit
-fit-all p (note ∷ notes) legal fit = fit-all (after p note) notes legal.1 (fit-after p note legal.0 fit)
+fit-all p notes legal fit = over-legal Fit fit-after p notes legal fit
 
 pub fit-first : (first_seq first_file : ℕ) → Fit (opening first_seq first_file)
 fit-first first_seq first_file = record { files = record { of_jobs = tt; of_loads = tt }; once = tt; known = tt; taken = record { below = tt; of_jobs = tt; of_loads = tt } }

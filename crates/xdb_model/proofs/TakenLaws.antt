@@ -14,6 +14,7 @@ use Rattle.xdb_plain.specs.declared.act.ShowWhat.TheVariants as show
 use Rattle.xdb_plain.specs.declared.note.Note.{Note}
 use Rattle.xdb_plain.specs.declared.reply.Reply.{Reply}
 use Rattle.xdb_plain.specs.declared.reply.Reply.TheVariants as reply
+use Rattle.xdb_model.proofs.LegalLaws.{over-legal}
 use Rattle.xdb_model.proofs.CauseLaws.{took}
 use Rattle.xdb_model.specs.Numbered.{AreDistinct}
 
@@ -64,9 +65,8 @@ taken-by p note (reply.Took n) is may h =
     distinct-push p.taken n h (not-taken p n (first-passes (is_dead p) p.known n first.0 first.1))
 taken-by p note _ is may h = h
 
-taken-all : (p : Plain) (notes : List Note) → Legal p notes → AreDistinct p.taken → AreDistinct (after_all p notes).taken
-taken-all p [] legal h = h
-taken-all p (note ∷ notes) legal h = taken-all (after p note) notes legal.1 (taken-by p note note.reply refl legal.0 h)
+taken-step : (p : Plain) (note : Note) → MayStand p note → AreDistinct p.taken → AreDistinct (after p note).taken
+taken-step p note may h = taken-by p note note.reply refl may h
 
 pub taken-once : (first_seq first_file : ℕ) (notes : List Note) → Legal (opening first_seq first_file) notes → AreDistinct (after_all (opening first_seq first_file) notes).taken
-taken-once first_seq first_file notes legal = taken-all (opening first_seq first_file) notes legal tt
+taken-once first_seq first_file notes legal = over-legal (λ p. AreDistinct p.taken) taken-step (opening first_seq first_file) notes legal tt
