@@ -16,7 +16,9 @@ use Rattle.xdb_rangedel.specs.Pieces.{pieces}
 use Rattle.xdb_rangedel.specs.View.{restricted}
 use Rattle.xdb_read.specs.Fits.{content}
 use Rattle.xdb_read.specs.declared.parts.ReadParts.{ReadParts}
+use Rattle.xdb_plain.specs.State.{groups as plain_groups}
 use Rattle.xdb_engine.specs.Questions.{Asking, asking}
+use Rattle.xdb_engine.specs.Seen.{Seen, plain_of}
 use Rattle.xdb_engine.specs.declared.asks.AskVerdict.{AskVerdict}
 use Rattle.xdb_engine.specs.declared.asks.AskVerdict.TheVariants as verdict
 
@@ -53,6 +55,12 @@ module _ {F : Type 0} where
   IsAsked groups next asked old new asked' by question parted TooMany None = Leaves asked old new asked' × (is_of_now question ≡ true) × (64 ≤ length old)
   IsAsked groups next asked old new asked' by question parted Memory None = Leaves asked old new asked' × (is_of_now question ≡ true) × (length old < 64)
   IsAsked groups next asked old new asked' by question parted _ _ = ⊥
+
+  -- The same from one engine to the next.
+  abbrev pub IsAskedOf : Seen F → Seen F → By → Question → Bool → Reply → Option (ReadParts F) → Type 0
+  IsAskedOf old new by question parted told hand =
+      let p = plain_of old in
+      IsAsked (plain_groups p) p.next p.asked old.questions new.questions (plain_of new).asked by question parted told hand
 
 abbrev pub ask_reply : AskVerdict → Reply
 ask_reply (verdict.Asked ask) = Asked ask

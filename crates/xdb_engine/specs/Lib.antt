@@ -2,6 +2,6 @@
 pub mod Notes
 pub mod Questions
 pub mod Commits
-pub mod Asks
 pub mod Seen
+pub mod Asks
 pub mod Stands

@@ -8,11 +8,13 @@ use Rattle.xdb_plain.specs.declared.act.Act.{Act}
 use Rattle.xdb_plain.specs.declared.act.Act.TheVariants as act
 use Rattle.xdb_plain.specs.declared.act.By.{By}
 use Rattle.xdb_plain.specs.declared.act.By.TheVariants.{Db}
+use Rattle.xdb_plain.specs.declared.note.Note.{Note}
 use Rattle.xdb_plain.specs.declared.reply.Reply.{Reply}
 use Rattle.xdb_plain.specs.declared.reply.Reply.TheVariants as reply
 use Rattle.xdb_read.specs.Fits.{meant, ReadFits}
 use Rattle.xdb_read.specs.declared.parts.ReadDone.{ReadDone}
 use Rattle.xdb_read.specs.declared.parts.ReadParts.{ReadParts}
+use Rattle.xdb_engine.specs.Notes.{plain_note}
 use Rattle.xdb_engine.specs.declared.questions.Settled.{Settled}
 use Rattle.xdb_engine.specs.declared.ids.Id.{Id}
 use Rattle.xdb_engine.specs.declared.ids.Id.TheVariants as ids
@@ -133,6 +135,10 @@ module _ {F : Type 0} where
   abbrev pub failure : Option (Asking F) → By × Act
   failure None = (Db, act.Work 0)
   failure (Some q) = (failure_by q, failure_act q)
+
+  -- the note of its failure
+  abbrev pub failure_note : Option (Asking F) → Reply → Note
+  failure_note question reply = plain_note (failure question).0 (failure question).1 reply
 
   -- the questions without that one
   abbrev pub failure_leaves : Option (Asking F) → List (Asking F) → List (Asking F)

@@ -4,14 +4,13 @@ ghost use Rattle.std.specs.Option.{option_map, option_copied};
 ghost use Rattle.xdb_plain.specs.Counts.{dead};
 ghost use Rattle.xdb_plain.specs.Fences.{fence_touched};
 ghost use Rattle.xdb_plain.specs.Legal.{IsRight};
-ghost use Rattle.xdb_plain.specs.State.{groups};
 ghost use Rattle.xdb_plain.specs.Steps.{is_client, asked_number};
 ghost use Rattle.xdb_plain.specs.declared.act.Act.TheVariants as act;
 ghost use Rattle.xdb_plain.specs.declared.act.By.TheVariants.{Client, Db};
 ghost use Rattle.xdb_plain.specs.declared.reply.Reply.TheVariants as reply;
-ghost use Rattle.xdb_engine.specs.Asks.{IsAsked};
+ghost use Rattle.xdb_engine.specs.Asks.{IsAskedOf};
 ghost use Rattle.xdb_engine.specs.Notes.{plain_note, is_work, faults};
-ghost use Rattle.xdb_engine.specs.Questions.{found, without, replaced, looked, heard, failure, failure_leaves, settle_act, settle_reply, settle_leaves, LooksFor, FitsGiven, found_by, is_kept};
+ghost use Rattle.xdb_engine.specs.Questions.{found, without, replaced, looked, heard, failure_note, failure_leaves, settle_act, settle_reply, settle_leaves, LooksFor, FitsGiven, found_by, is_kept};
 ghost use Rattle.xdb_engine.specs.Stands.{IsNumbered};
 ghost use Rattle.xdb_engine.specs.Seen.{plain_of, Adds, with_questions, lent, FitsQuestion, IsBrought};
 
@@ -182,7 +181,7 @@ impl<F: FileRef, L: Ledger> Engine<F, L> {
         requires client { IsTrue (is_client (Client client)) }
         ensures note { Adds self.old self.new (plain_note (Client client) (act.Ask (asked_number result.0) question parted) result.0) }
         // What is handed out, and the questions that are open then.
-        ensures asked { IsAsked (groups (plain_of self.old)) (plain_of self.old).next (plain_of self.old).asked self.old.questions self.new.questions (plain_of self.new).asked (Client client) question parted result.0 result.1 }
+        ensures asked { IsAskedOf self.old self.new (Client client) question parted result.0 result.1 }
     {
         let by = By::Client(client);
         let (verdict, hand) = asks::ask(
@@ -230,7 +229,7 @@ impl<F: FileRef, L: Ledger> Engine<F, L> {
         requires room { 1 ≤ self.old.spare }
         requires there { IsSome (found_by id self.old.questions) }
         requires tried { tried.items ≡ [] }
-        ensures note { Adds self.old self.new (plain_note (failure (found_by id self.old.questions)).0 (failure (found_by id self.old.questions)).1 result) }
+        ensures note { Adds self.old self.new (failure_note (found_by id self.old.questions) result) }
         ensures reply { result ≡ reply.Memory }
         ensures questions { self.new.questions ≡ failure_leaves (found_by id self.old.questions) self.old.questions }
     {

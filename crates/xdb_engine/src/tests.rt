@@ -88,6 +88,7 @@ fn ask<L: Ledger>(
     alloc: Global,
     engine: &mut Engine<MemFile, L>,
     number: u16,
+    parted: bool,
 ) -> Result<(Told, Option<Hand<ReadWork<MemFile>>>), Fail>
     requires { 1 ≤ engine.old.spare }
     ensures { engine.old.spare ≤ engine.new.spare + 1 }
@@ -96,7 +97,7 @@ fn ask<L: Ledger>(
         key: key(alloc, number)?,
         at: None,
     };
-    let (reply, hand) = engine.ask(1, question, true);
+    let (reply, hand) = engine.ask(1, question, parted);
     Ok((kind_of(&reply), hand))
 }
 
@@ -136,7 +137,7 @@ fn seals<L: Ledger>(alloc: Global, engine: &mut Engine<MemFile, L>) -> Result<bo
 fn asked_before<L: Ledger>(alloc: Global, engine: &mut Engine<MemFile, L>) -> Result<bool, Fail> {
     engine.ready()?;
     commit(alloc, engine, 1, 1)?;
-    match ask(alloc, engine, 1)? {
+    match ask(alloc, engine, 1, true)? {
         (Told::Asked(1), Some(hand)) => settled_behind(alloc, engine, hand),
         _ => Ok(false),
     }
@@ -159,12 +160,13 @@ fn settled_behind<L: Ledger>(
     )
 }
 
-/// A question ends for want of memory, and none is there for what was never asked.
+/// A read that isn't in parts ends for want of memory; then there is no such work, and no load.
 fn lack<L: Ledger>(alloc: Global, engine: &mut Engine<MemFile, L>) -> Result<bool, Fail> {
     engine.ready()?;
-    let (asked, _hand) = ask(alloc, engine, 1)?;
+    let (asked, hand) = ask(alloc, engine, 1, false)?;
     Ok(
         asked == Told::Asked(1)
+            && hand.is_some()
             && engine.reserved(&Id::Ask(1)).is_some()
             && kind_of(&engine.lack(Id::Ask(1), Vec::new(alloc))) == Told::Memory
             && kind_of(&engine.no_such(Act::Work { ask: 1 })) == Told::NoSuch
@@ -198,7 +200,7 @@ fn turn_is_right<L: Ledger>(
     engine.ready()?;
     commit(alloc, engine, turn, 1)?;
     let number = u64::from(turn);
-    match ask(alloc, engine, turn)? {
+    match ask(alloc, engine, turn, true)? {
         (Told::Asked(asked), Some(hand)) if asked == number => deliver(alloc, hand)?,
         _ => return Ok(false),
     }
@@ -209,12 +211,12 @@ fn turn_is_right<L: Ledger>(
 fn most_questions<L: Ledger>(alloc: Global, engine: &mut Engine<MemFile, L>) -> Result<bool, Fail> {
     for number in 1..=64 {
         engine.ready()?;
-        if ask(alloc, engine, 1)?.0 != Told::Asked(number) {
+        if ask(alloc, engine, 1, true)?.0 != Told::Asked(number) {
             return Ok(false);
         }
     }
     engine.ready()?;
-    Ok(ask(alloc, engine, 1)?.0 == Told::TooMany)
+    Ok(ask(alloc, engine, 1, true)?.0 == Told::TooMany)
 }
 
 /// What is played on an engine of its own, and its first sequence number.

@@ -22,6 +22,7 @@ use Rattle.xdb_plain.specs.declared.act.By.{By}
 use Rattle.xdb_plain.specs.declared.note.Note.{Note}
 use Rattle.xdb_plain.specs.declared.reply.Reply.{Reply}
 use Rattle.xdb_plain.specs.declared.reply.Reply.TheVariants as reply
+use Rattle.xdb_model.proofs.LegalLaws.{over-legal}
 use Rattle.xdb_model.specs.Numbered.{FilesFit}
 
 -- ---- the next number never falls
@@ -220,10 +221,5 @@ files-step p note may fit = record {
   of_loads = loads-by p note.by note.act (outcome note.reply) note.edit note.reply refl may.reply fit.of_loads;
 }
 
-files-all : (p : Plain) (notes : List Note) → Legal p notes → FilesFit p → FilesFit (after_all p notes)
-files-all p [] legal fit = fit
-files-all p (note ∷ notes) legal fit =
-    files-all (after p note) notes legal.1 (files-step p note legal.0 fit)
-
 pub files-fit : (first_seq first_file : ℕ) (notes : List Note) → Legal (opening first_seq first_file) notes → FilesFit (after_all (opening first_seq first_file) notes)
-files-fit first_seq first_file notes legal = files-all (opening first_seq first_file) notes legal (record { of_jobs = tt; of_loads = tt })
+files-fit first_seq first_file notes legal = over-legal FilesFit files-step (opening first_seq first_file) notes legal (record { of_jobs = tt; of_loads = tt })

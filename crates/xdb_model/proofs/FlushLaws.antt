@@ -18,6 +18,7 @@ use Rattle.xdb_plain.specs.declared.act.By.{By}
 use Rattle.xdb_plain.specs.declared.note.Note.{Note}
 use Rattle.xdb_plain.specs.declared.reply.Reply.{Reply}
 use Rattle.xdb_plain.specs.declared.reply.Reply.TheVariants as reply
+use Rattle.xdb_model.proofs.LegalLaws.{over-legal}
 use Rattle.xdb_model.proofs.ListLaws.{all-append, all-filtered, all-from_has, all-has, all-map, all-more, pairs-append, pairs-filtered, pairs-map, pairs-more}
 use Rattle.xdb_model.proofs.PlannedLaws.{others-pairs}
 use Rattle.xdb_model.specs.Apart.{Pairwise}
@@ -159,9 +160,5 @@ fit-step p note may fit = record {
   one = jobs-one p note.by note.act (outcome note.reply) note.reply refl may.reply fit;
 }
 
-flushes-all : (p : Plain) (notes : List Note) → Legal p notes → FlushesFit p → FlushesFit (after_all p notes)
-flushes-all p [] legal fit = fit
-flushes-all p (note ∷ notes) legal fit = flushes-all (after p note) notes legal.1 (fit-step p note legal.0 fit)
-
 pub flushes-fit : (first_seq first_file : ℕ) (notes : List Note) → Legal (opening first_seq first_file) notes → FlushesFit (after_all (opening first_seq first_file) notes)
-flushes-fit first_seq first_file notes legal = flushes-all (opening first_seq first_file) notes legal (record { oldest = tt; one = tt })
+flushes-fit first_seq first_file notes legal = over-legal FlushesFit fit-step (opening first_seq first_file) notes legal (record { oldest = tt; one = tt })

@@ -20,6 +20,7 @@ use Rattle.xdb_plain.specs.declared.act.By.{By}
 use Rattle.xdb_plain.specs.declared.note.Note.{Note}
 use Rattle.xdb_plain.specs.declared.reply.Reply.{Reply}
 use Rattle.xdb_plain.specs.declared.reply.Reply.TheVariants as reply
+use Rattle.xdb_model.proofs.LegalLaws.{over-legal}
 use Rattle.xdb_model.specs.Numbered.{AreCounted, HoldsOperations, GroupsFit}
 
 -- ---- counting
@@ -117,10 +118,6 @@ groups-step p note may fit =
       filled = filled-at p.sealed p.active flushed sealed fit.filled (λ is. sealed-filled p note.by note.act note.reply may.reply is);
     }
 
-groups-all : (p : Plain) (notes : List Note) → Legal p notes → GroupsFit p → GroupsFit (after_all p notes)
-groups-all p [] legal fit = fit
-groups-all p (note ∷ notes) legal fit = groups-all (after p note) notes legal.1 (groups-step p note legal.0 fit)
-
 pub groups-fit : (first_seq first_file : ℕ) (notes : List Note) → Legal (opening first_seq first_file) notes → GroupsFit (after_all (opening first_seq first_file) notes)
 groups-fit first_seq first_file notes legal =
-    groups-all (opening first_seq first_file) notes legal (record { first = 1; from = omega arith; counted = (refl, tt); filled = tt })
+    over-legal GroupsFit groups-step (opening first_seq first_file) notes legal (record { first = 1; from = omega arith; counted = (refl, tt); filled = tt })

@@ -14,7 +14,7 @@ use Rattle.xdb_plain.specs.Steps.{MayStand}
 use Rattle.xdb_plain.specs.declared.note.Note.{Note}
 use Rattle.xdb_plain.specs.declared.reply.Reply.{Reply}
 use Rattle.xdb_plain.specs.declared.reply.Reply.TheVariants as reply
-use Rattle.xdb_model.proofs.CauseLaws.{replies, took}
+use Rattle.xdb_model.proofs.CauseLaws.{took}
 use Rattle.xdb_model.proofs.CountLaws.{held-referenced, has-map}
 use Rattle.xdb_model.proofs.HeldLaws.{holds-step}
 use Rattle.xdb_model.proofs.KnownLaws.{Fit, fit-after, fit-first}
@@ -152,7 +152,7 @@ unused-after n p note may fit unused = record {
 
 took-unused : (n : ℕ) (p : Plain) (note : Note) → MayStand p note → note.reply ≡ reply.Took n → Fit p → Told p → Unused n p
 took-unused n p note may said fit told =
-    let reaps = only-reap p note.by note.act n (replies p note note.act (reply.Took n) may refl said) in
+    let reaps = only-reap p note n may said in
     let first = took p note n may reaps said in
     record {
       gone = took-gone n p note may said fit;

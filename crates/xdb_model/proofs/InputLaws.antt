@@ -23,6 +23,7 @@ use Rattle.xdb_plain.specs.declared.act.By.{By}
 use Rattle.xdb_plain.specs.declared.note.Note.{Note}
 use Rattle.xdb_plain.specs.declared.reply.Reply.{Reply}
 use Rattle.xdb_plain.specs.declared.reply.Reply.TheVariants as reply
+use Rattle.xdb_model.proofs.LegalLaws.{over-legal}
 use Rattle.xdb_model.proofs.CrossedLaws.{has-filtered, has-put_all, has-level, removed-all}
 use Rattle.xdb_model.proofs.DisjointLaws.{layered-all, layered-after, layered-first, no-overlap, ranges-after}
 use Rattle.xdb_model.proofs.ListLaws.{all-has, all-more, same-or}
@@ -156,8 +157,7 @@ kept-first first_seq first_file = record {
 }
 
 kept-all : (p : Plain) (notes : List Note) → Legal p notes → Kept p → Kept (after_all p notes)
-kept-all p [] legal kept = kept
-kept-all p (note ∷ notes) legal kept = kept-all (after p note) notes legal.1 (kept-after p note legal.0 kept)
+kept-all p notes legal kept = over-legal Kept kept-after p notes legal kept
 
 pub compactions-fit : (first_seq first_file : ℕ) (notes : List Note) → Legal (opening first_seq first_file) notes → CompactionsFit (after_all (opening first_seq first_file) notes)
 compactions-fit first_seq first_file notes legal =

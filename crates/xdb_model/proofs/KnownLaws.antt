@@ -18,7 +18,8 @@ use Rattle.xdb_plain.specs.declared.act.Act.TheVariants as act
 use Rattle.xdb_plain.specs.declared.note.Note.{Note}
 use Rattle.xdb_plain.specs.declared.reply.Reply.{Reply}
 use Rattle.xdb_plain.specs.declared.reply.Reply.TheVariants as reply
-use Rattle.xdb_model.proofs.CauseLaws.{replies, took}
+use Rattle.xdb_model.proofs.LegalLaws.{over-legal}
+use Rattle.xdb_model.proofs.CauseLaws.{took}
 use Rattle.xdb_model.proofs.FileLaws.{file-later, files-step, same-numbers}
 use Rattle.xdb_model.proofs.LoadLaws.{AreNamedOnce, LoadsFree, once-by, free-by, none-open}
 use Rattle.xdb_model.proofs.TakenLaws.{only-reap, first-passes}
@@ -230,21 +231,21 @@ pub record Fit (p : Plain) : Type 0 where
 
 taken-below : (p : Plain) (note : Note) (r : Reply) → note.reply ≡ r → MayStand p note → Fit p → Below p.file (taken_after p.taken r)
 taken-below p note (reply.Took n) is may fit =
-    let reaps = only-reap p note.by note.act n (replies p note note.act (reply.Took n) may refl is) in
+    let reaps = only-reap p note n may is in
     let first = took p note n may reaps is in
     all-push (λ m. m < p.file) p.taken n fit.taken.below (first-all (λ m. m < p.file) (is_dead p) p.known n first.0 first.1 fit.known)
 taken-below p note _ is may fit = fit.taken.below
 
 taken-jobs : (p : Plain) (note : Note) (r : Reply) → note.reply ≡ r → MayStand p note → Fit p → AllByRecursion (λ n. JobsFree n p.jobs) (taken_after p.taken r)
 taken-jobs p note (reply.Took n) is may fit =
-    let reaps = only-reap p note.by note.act n (replies p note note.act (reply.Took n) may refl is) in
+    let reaps = only-reap p note n may is in
     let first = took p note n may reaps is in
     all-push (λ m. JobsFree m p.jobs) p.taken n fit.taken.of_jobs (dead-free p n (first-passes (is_dead p) p.known n first.0 first.1))
 taken-jobs p note _ is may fit = fit.taken.of_jobs
 
 taken-loads : (p : Plain) (note : Note) (r : Reply) → note.reply ≡ r → MayStand p note → Fit p → AllByRecursion (λ n. LoadsFree n p.loads) (taken_after p.taken r)
 taken-loads p note (reply.Took n) is may fit =
-    let reaps = only-reap p note.by note.act n (replies p note note.act (reply.Took n) may refl is) in
+    let reaps = only-reap p note n may is in
     let first = took p note n may reaps is in
     all-push (λ m. LoadsFree m p.loads) p.taken n fit.taken.of_loads (dead-open p n (first-passes (is_dead p) p.known n first.0 first.1))
 taken-loads p note _ is may fit = fit.taken.of_loads
@@ -264,8 +265,7 @@ fit-after p note may fit =
     }
 
 pub fit-all : (p : Plain) (notes : List Note) → Legal p notes → Fit p → Fit (after_all p notes)
-fit-all p [] legal fit = fit
-fit-all p (note ∷ notes) legal fit = fit-all (after p note) notes legal.1 (fit-after p note legal.0 fit)
+fit-all p notes legal fit = over-legal Fit fit-after p notes legal fit
 
 pub fit-first : (first_seq first_file : ℕ) → Fit (opening first_seq first_file)
 fit-first first_seq first_file = record { files = record { of_jobs = tt; of_loads = tt }; once = tt; known = tt; taken = record { below = tt; of_jobs = tt; of_loads = tt } }

@@ -1,3 +1,4 @@
+pub mod LegalLaws
 pub mod CauseLaws
 pub mod CountLaws
 pub mod FileLaws

@@ -23,7 +23,7 @@ use Rattle.xdb_plain.specs.declared.note.Note.{Note}
 use Rattle.xdb_plain.specs.declared.reply.Reply.{Reply}
 use Rattle.xdb_plain.specs.declared.reply.Reply.TheVariants as reply
 use Rattle.xdb_model.proofs.ListLaws.{all-both, all-either, all-more, all-unmap}
-use Rattle.xdb_model.proofs.CauseLaws.{replies, took, load_of}
+use Rattle.xdb_model.proofs.CauseLaws.{took, load_of}
 use Rattle.xdb_model.proofs.EditedLaws.{levels-all}
 use Rattle.xdb_model.proofs.FileLaws.{file-later}
 use Rattle.xdb_model.proofs.KnownLaws.{Fit, fit-all, fit-first, JobFree, JobsFree, jobs-by, not-within, found-all, first-all, dead-free, dead-open}
@@ -217,7 +217,7 @@ dead-count p n e =
 -- at the note that takes it
 pub took-gone : (n : ℕ) (p : Plain) (note : Note) → MayStand p note → note.reply ≡ reply.Took n → Fit p → Gone n p
 took-gone n p note may said fit =
-    let reaps = only-reap p note.by note.act n (replies p note note.act (reply.Took n) may refl said) in
+    let reaps = only-reap p note n may said in
     let first = took p note n may reaps said in
     let dead = first-passes (is_dead p) p.known n first.0 first.1 in
     record {

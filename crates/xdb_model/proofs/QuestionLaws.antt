@@ -10,7 +10,7 @@ use Rattle.xdb_plain.specs.Legal.{Legal, after_all}
 use Rattle.xdb_plain.specs.Outcomes.{Outcome, succeeds, begins, fails, stays, outcome}
 use Rattle.xdb_plain.specs.Replies.{may_reply, same_reply, ask_replies, new_ask_replies, room_replies, excised_or, through_replies, at_replies, on_cursor_replies, or_reply, busy_reply, busy_on}
 use Rattle.xdb_plain.specs.State.{Plain, Snapshot, Cursor, OpenQuestion, opening, found_snap, found_cursor, found_question, without_question}
-use Rattle.xdb_plain.specs.Steps.{FitsAct, FitsAsk, asked_number}
+use Rattle.xdb_plain.specs.Steps.{MayStand, FitsAct, FitsAsk, asked_number}
 use Rattle.xdb_plain.specs.declared.act.Act.{Act}
 use Rattle.xdb_plain.specs.declared.act.Act.TheVariants as act
 use Rattle.xdb_plain.specs.declared.act.By.{By}
@@ -20,6 +20,7 @@ use Rattle.xdb_plain.specs.declared.question.Question.{Question}
 use Rattle.xdb_plain.specs.declared.question.Question.TheVariants.{Get, Scan, RScan, Move}
 use Rattle.xdb_plain.specs.declared.reply.Reply.{Reply}
 use Rattle.xdb_plain.specs.declared.reply.Reply.TheVariants as reply
+use Rattle.xdb_model.proofs.LegalLaws.{over-legal}
 use Rattle.xdb_model.proofs.CauseLaws.{same-number}
 use Rattle.xdb_model.specs.Numbered.{RiseTo, QuestionsFit}
 
@@ -141,10 +142,8 @@ questions-by p by (act.Settle ask) succeeds r is may fits h = rise-without 0 p.a
 questions-by p by (act.Work ask) fails r is may fits h = rise-without 0 p.asked ask p.questions h
 questions-by p by _ _ r is may fits h = h
 
-questions-all : (p : Plain) (notes : List Note) → Legal p notes → QuestionsFit p → QuestionsFit (after_all p notes)
-questions-all p [] legal fit = fit
-questions-all p (note ∷ notes) legal fit =
-    questions-all (after p note) notes legal.1 (questions-by p note.by note.act (outcome note.reply) note.reply refl legal.0.reply legal.0.act fit)
+questions-step : (p : Plain) (note : Note) → MayStand p note → QuestionsFit p → QuestionsFit (after p note)
+questions-step p note may fit = questions-by p note.by note.act (outcome note.reply) note.reply refl may.reply may.act fit
 
 pub questions-fit : (first_seq first_file : ℕ) (notes : List Note) → Legal (opening first_seq first_file) notes → QuestionsFit (after_all (opening first_seq first_file) notes)
-questions-fit first_seq first_file notes legal = questions-all (opening first_seq first_file) notes legal (omega arith)
+questions-fit first_seq first_file notes legal = over-legal QuestionsFit questions-step (opening first_seq first_file) notes legal (omega arith)

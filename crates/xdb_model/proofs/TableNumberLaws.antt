@@ -27,6 +27,7 @@ use Rattle.xdb_plain.specs.declared.act.By.{By}
 use Rattle.xdb_plain.specs.declared.note.Note.{Note}
 use Rattle.xdb_plain.specs.declared.reply.Reply.{Reply}
 use Rattle.xdb_plain.specs.declared.reply.Reply.TheVariants as reply
+use Rattle.xdb_model.proofs.LegalLaws.{over-legal}
 use Rattle.xdb_model.proofs.EditedLaws.{levels-all, level-all}
 use Rattle.xdb_model.proofs.FileLaws.{JobBelow, LoadBelow, file-later}
 use Rattle.xdb_model.proofs.KnownLaws.{Fit, fit-after, fit-first, JobFree, JobsFree, jobs-by, jobs-installed, not-within}
@@ -346,8 +347,7 @@ numbers-first first_seq first_file = record {
 }
 
 pub numbers-all : (p : Plain) (notes : List Note) → Legal p notes → Numbers p → Numbers (after_all p notes)
-numbers-all p [] legal numbers = numbers
-numbers-all p (note ∷ notes) legal numbers = numbers-all (after p note) notes legal.1 (numbers-after p note legal.0 numbers)
+numbers-all p notes legal numbers = over-legal Numbers numbers-after p notes legal numbers
 
 -- ---- what the definitions say
 

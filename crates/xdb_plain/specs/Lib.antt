@@ -7,6 +7,7 @@ pub mod Snapshots
 pub mod Counts
 pub mod Edits
 pub mod Replies
+pub mod Possible
 pub mod Outcomes
 pub mod Holds
 pub mod Changes

@@ -6,6 +6,7 @@ ghost use Rattle.xdb_plain.specs.Holds.{HoldsFit};
 ghost use Rattle.xdb_plain.specs.Outcomes.{stays, outcome, is_refused};
 ghost use Rattle.xdb_plain.specs.Steps.{MayStand};
 ghost use Rattle.xdb_plain.specs.Legal.{after_all, Legal, Right, AnswersRight};
+ghost use Rattle.xdb_plain.specs.Possible.{is_reply_of};
 ghost use Rattle.xdb_plain.specs.Replies.{same_by};
 ghost use Rattle.xdb_plain.specs.Runs.{Run, first_run, run_after, run_over, IsBlock, AreBlocks, IsDrain, IsRunOf};
 ghost use Rattle.xdb_plain.specs.Workers.{notes_by};
@@ -54,4 +55,9 @@ pub fn refused_steps_change_nothing()
     ensures same { (p : Plain) (note : Note) → MayStand p note → note.holds ≡ []
         → is_refused p note.act (outcome note.reply) ≡ true → after p note ≡ p }
     ensures no_holds { (p : Plain) (note : Note) → HoldsFit p note → outcome note.reply ≡ stays → note.holds ≡ [] }
+{}
+
+/// A reply that may stand is one that its act can have at all.
+pub fn replies_are_of_their_acts()
+    ensures { (p : Plain) (note : Note) → MayStand p note → is_reply_of note.act note.reply ≡ true }
 {}

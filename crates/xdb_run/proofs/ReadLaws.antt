@@ -4,7 +4,7 @@ use Rattle.std.specs.List.{All}
 use Rattle.std.proofs.lemmas.Bool.{eq-eqb, false≢true}
 use Rattle.std.proofs.lemmas.List.Elements.{All-push}
 use Rattle.xdb_lists.proofs.PlaceLaws.{under-none, under-pushed, under-placed, all-placed, all-others}
-use Rattle.xdb_engine.specs.Asks.{IsAsked}
+use Rattle.xdb_engine.specs.Asks.{IsAsked, IsAskedOf}
 use Rattle.xdb_engine.specs.Notes.{plain_note}
 use Rattle.xdb_engine.specs.Questions.{Asking, asking, found, without, replaced, looked, settle_act, settle_reply, settle_leaves, failure, failure_leaves}
 use Rattle.xdb_engine.specs.Seen.{Seen, plain_of, Adds, with_questions}
@@ -45,10 +45,6 @@ module _ {F : Type 0} where
   asked-await gs next asked later old new by question reply.TooMany None ws is all low = subst (λ qs. All (Awaits ws) qs) (sym is.0.same) all
   asked-await gs next asked later old new by question reply.Memory None ws is all low = subst (λ qs. All (Awaits ws) qs) (sym is.0.same) all
   asked-await gs next asked later old new by question _ _ ws is all low = absurd is
-
-  abbrev pub IsAskedOf : Seen F → Seen F → By → Question → Bool → Reply → Option (ReadParts F) → Type 0
-  IsAskedOf old new by question parted told hand =
-      IsAsked (groups (plain_of old)) (plain_of old).next (plain_of old).asked old.questions new.questions (plain_of new).asked by question parted told hand
 
   given-at : (r : Run) (e : Seen F) → IsAt r e → (n : ℕ) → is_among n r.worked ≡ true → n ≤ (plain_of e).asked
   given-at r e at n among = subst (λ p. n ≤ p.asked) at.plain (at.given n among)

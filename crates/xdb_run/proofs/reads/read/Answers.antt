@@ -6,7 +6,8 @@ use Rattle.xdb_engine.specs.declared.ids.Outcome.TheVariants as outcome
 use Rattle.xdb_order.specs.Desk.{fresh_story}
 use Rattle.xdb_plain.specs.declared.act.By.TheVariants.{Client}
 use Rattle.xdb_read.specs.Fits.{ReadFits}
-use Rattle.xdb_run.proofs.ReadLaws.{IsAskedOf, refused-takes, opened, opened-note, opened-found, of-found, to-found, answered-takes, lacked-takes}
+use Rattle.xdb_engine.specs.Asks.{IsAskedOf}
+use Rattle.xdb_run.proofs.ReadLaws.{refused-takes, opened, opened-note, opened-found, of-found, to-found, answered-takes, lacked-takes}
 use Rattle.xdb_run.proofs.reads.read.Goals as goal
 
 pub returns-in_default : goal.returns-in_default
