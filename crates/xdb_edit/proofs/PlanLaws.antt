@@ -1,49 +1,18 @@
 -- A plan takes in all that it meets: its hull doesn't grow any more.
-use Rattle.std.proofs.Common.{◌≡◌, ℕ, suc, ◌+◌, ◌<◌, ◌≤◌, ◌⊎◌, Bool, true, false, not, cond, ltb, List, [], ◌∷◌, ◌++◌, length, Some, None, refl, sym, ap, subst, ◌∙◌, inl, inr, arith}
+use Rattle.std.proofs.Common.{◌≡◌, ℕ, suc, ◌+◌, ◌<◌, ◌≤◌, ◌⊎◌, Bool, true, false, cond, ltb, List, [], ◌∷◌, ◌++◌, length, Some, None, refl, sym, ap, subst, ◌∙◌, inl, inr, arith}
 use Rattle.std.specs.List.{list_all, list_any}
-use Rattle.std.proofs.lemmas.Bool.{and_parts, and_from, cases_Bool, false≢true}
-use Rattle.xdb_key.specs.Bounds.{Bounds, bounds, meets, covers}
+use Rattle.std.proofs.lemmas.Bool.{and_parts, and_from, false≢true}
+use Rattle.xdb_key.specs.Bounds.{Bounds, bounds, meets, covers, lesser, greater}
 use Rattle.xdb_key.specs.Order.{is_below, is_upto}
-use Rattle.xdb_key.proofs.OrderLaws.{upto-itself, upto-not_below, upto_from_below, upto_trans, upto_below, below_upto}
+use Rattle.xdb_key.proofs.OrderLaws.{upto-itself, upto_trans, upto_antisymm, upto_below, below_upto, lesser_upto_first, lesser_upto_second, upto_lesser, first_upto_greater, second_upto_greater, greater_upto}
 use Rattle.xdb_meta.specs.Table.{Table, bounds_of}
 use Rattle.xdb_edit.specs.Versions.{LevelLists, tables_of}
-use Rattle.xdb_edit.specs.Plans.{Planned, lesser, greater, hull_over, meeting, grown, planned, unless_running, plan_from, plan_for}
+use Rattle.xdb_edit.specs.Plans.{Planned, hull_over, meeting, grown, planned, unless_running, plan_from, plan_for}
 
 -- ---- ranges that contain others
 
-not_false : (b : Bool) → not b ≡ true → b ≡ false
-not_false true h = absurd (false≢true h)
-not_false false h = refl
-
-not_true : (b : Bool) → b ≡ false → not b ≡ true
-not_true b h = ap not h
-
 abbrev wider : Bounds → Table → Bounds
 wider r t = bounds (lesser r.lo t.lo) (greater r.hi t.hi)
-
-lesser-first : (a b : List ℕ) → is_upto (lesser a b) a ≡ true
-lesser-first a b = elim (cases_Bool (is_below b a)) [
-  | inl below ↦ ap (λ c. is_upto (cond c b a) a) below ∙ upto_from_below b a below
-  | inr above ↦ ap (λ c. is_upto (cond c b a) a) above ∙ upto-itself a
-]
-
-lesser-second : (a b : List ℕ) → is_upto (lesser a b) b ≡ true
-lesser-second a b = elim (cases_Bool (is_below b a)) [
-  | inl below ↦ ap (λ c. is_upto (cond c b a) b) below ∙ upto-itself b
-  | inr above ↦ ap (λ c. is_upto (cond c b a) b) above ∙ upto-not_below a b ∙ not_true (is_below b a) above
-]
-
-greater-first : (a b : List ℕ) → is_upto a (greater a b) ≡ true
-greater-first a b = elim (cases_Bool (is_below a b)) [
-  | inl below ↦ ap (λ c. is_upto a (cond c b a)) below ∙ upto_from_below a b below
-  | inr above ↦ ap (λ c. is_upto a (cond c b a)) above ∙ upto-itself a
-]
-
-greater-second : (a b : List ℕ) → is_upto b (greater a b) ≡ true
-greater-second a b = elim (cases_Bool (is_below a b)) [
-  | inl below ↦ ap (λ c. is_upto b (cond c b a)) below ∙ upto-itself b
-  | inr above ↦ ap (λ c. is_upto b (cond c b a)) above ∙ upto-not_below b a ∙ not_true (is_below a b) above
-]
 
 covers-itself : (r : Bounds) → covers r r ≡ true
 covers-itself r = and_from _ _ (upto-itself r.lo) (upto-itself r.hi)
@@ -66,7 +35,7 @@ meets-wider o r x h m =
 hull-covers : (r : Bounds) (ts : List Table) → covers (hull_over r ts) r ≡ true
 hull-covers r [] = covers-itself r
 hull-covers r (t ∷ ts) =
-    covers-chain (hull_over (wider r t) ts) (wider r t) r (hull-covers (wider r t) ts) (and_from _ _ (lesser-first r.lo t.lo) (greater-first r.hi t.hi))
+    covers-chain (hull_over (wider r t) ts) (wider r t) r (hull-covers (wider r t) ts) (and_from _ _ (lesser_upto_first r.lo t.lo) (first_upto_greater r.hi t.hi))
 
 all_wider : (o r : Bounds) (ts : List Table) → covers o r ≡ true → list_all (λ t. covers r (bounds_of t)) ts ≡ true → list_all (λ t. covers o (bounds_of t)) ts ≡ true
 all_wider o r [] h all = refl
@@ -78,14 +47,14 @@ all_wider o r (t ∷ ts) h all =
 pub hull-covers_all : (r : Bounds) (ts : List Table) → list_all (λ t. covers (hull_over r ts) (bounds_of t)) ts ≡ true
 hull-covers_all r [] = refl
 hull-covers_all r (t ∷ ts) =
-    let one : covers (wider r t) (bounds_of t) ≡ true = and_from _ _ (lesser-second r.lo t.lo) (greater-second r.hi t.hi) in
+    let one : covers (wider r t) (bounds_of t) ≡ true = and_from _ _ (lesser_upto_second r.lo t.lo) (second_upto_greater r.hi t.hi) in
     and_from _ _ (covers-chain (hull_over (wider r t) ts) (wider r t) (bounds_of t) (hull-covers (wider r t) ts) one) (hull-covers_all (wider r t) ts)
 
 lesser-same : (a b : List ℕ) → is_upto a b ≡ true → lesser a b ≡ a
-lesser-same a b h = ap (λ c. cond c b a) (not_false (is_below b a) (sym (upto-not_below a b) ∙ h))
+lesser-same a b h = upto_antisymm (lesser a b) a (lesser_upto_first a b) (upto_lesser a a b (upto-itself a) h)
 
 greater-same : (a b : List ℕ) → is_upto b a ≡ true → greater a b ≡ a
-greater-same a b h = ap (λ c. cond c b a) (not_false (is_below a b) (sym (upto-not_below b a) ∙ h))
+greater-same a b h = upto_antisymm (greater a b) a (greater_upto a a b (upto-itself a) h) (first_upto_greater a b)
 
 -- over tables that it contains it stays
 hull-stays : (r : Bounds) (ts : List Table) → list_all (λ t. covers r (bounds_of t)) ts ≡ true → hull_over r ts ≡ r

@@ -4,15 +4,16 @@ use Rattle.std.specs.Option.{is_none}
 use Rattle.std.specs.List.{cons_option, filter_map, list_all}
 use Rattle.std.specs.declared.cmp.Ordering.{Ordering}
 use Rattle.std.specs.declared.cmp.Ordering.TheVariants.{Less, Equal, Greater}
-use Rattle.std.specs.Ordering.{nat_cmp, is_lt, is_le, is_gt, ordering_then, ordering_reverse}
-use Rattle.std.specs.Cmp.{IsTotalOrder, upto, on_total, then_total, nat_cmp_total}
-use Rattle.std.proofs.lemmas.Bool.{and_parts, and_from, cases_Bool, false≢true, true≢false}
+use Rattle.std.specs.Ordering.{nat_cmp, is_le, ordering_then}
+use Rattle.std.specs.Cmp.{IsTotalOrder, on_total, then_total, nat_cmp_total}
+use Rattle.std.proofs.lemmas.Bool.{and_parts, and_from, cases_Bool, false≢true}
+use Rattle.xdb_lists.proofs.SortedLaws.{all_filter, all_put_all_in, sorted_filter, sorted_put_all_in}
 use Rattle.xdb_key.specs.Bounds.{meets}
 use Rattle.xdb_key.specs.Order.{key_cmp, is_below, is_upto}
 use Rattle.xdb_key.proofs.OrderLaws.{key_total, upto-not_below, upto_below, upto_trans, upto_from_below}
 use Rattle.xdb_meta.specs.Table.{Table, bounds_of}
 use Rattle.xdb_edit.specs.Changes.{Changes}
-use Rattle.xdb_edit.specs.Versions.{LevelLists, table_cmp, put_in, put_all_in, removes, added_to, edited_level, edited_from, edited, edited_by, or_else, meeting_after, meeting_in, meeting_among, overlap, missing, applies, is_sorted, is_disjoint, are_sorted_from, are_sorted, are_disjoint, has_range, have_ranges}
+use Rattle.xdb_edit.specs.Versions.{LevelLists, table_cmp, removes, added_to, edited_level, edited_from, edited, edited_by, or_else, meeting_after, meeting_in, meeting_among, overlap, missing, applies, is_sorted, is_disjoint, are_sorted_from, are_sorted, are_disjoint, has_range, have_ranges}
 
 -- ---- the order of a level is total
 
@@ -20,98 +21,11 @@ pub table_cmp-total : (level : ℕ) → IsTotalOrder (table_cmp level)
 table_cmp-total zero = then_total (on_total (λ t. t.seq_hi) nat_cmp_total) (on_total (λ t. t.num) nat_cmp_total)
 table_cmp-total (suc level) = then_total (on_total (λ t. t.lo) key_total) (on_total (λ t. t.num) nat_cmp_total)
 
-le_not_gt : (r : Ordering) → is_le r ≡ true → is_gt r ≡ false
-le_not_gt Less h = refl
-le_not_gt Equal h = refl
-le_not_gt Greater h = absurd (false≢true h)
-
-not_gt_le : (r : Ordering) → is_gt r ≡ false → is_le r ≡ true
-not_gt_le Less h = refl
-not_gt_le Equal h = refl
-not_gt_le Greater h = absurd (true≢false h)
-
-lt_le : (r : Ordering) → is_lt r ≡ true → is_le r ≡ true
-lt_le Less h = refl
-lt_le Equal h = absurd (false≢true h)
-lt_le Greater h = absurd (false≢true h)
-
-not_lt_turned : (r : Ordering) → is_lt r ≡ false → is_le (ordering_reverse r) ≡ true
-not_lt_turned Less h = absurd (true≢false h)
-not_lt_turned Equal h = refl
-not_lt_turned Greater h = refl
-
-module _ {cmp : Table → Table → Ordering} (total : IsTotalOrder cmp) where
-  le_chain : (a b c : Table) → is_le (cmp a b) ≡ true → is_le (cmp b c) ≡ true → is_le (cmp a c) ≡ true
-  le_chain a b c p q = not_gt_le _ (upto total a b c (le_not_gt _ p) (le_not_gt _ q))
-
-  le_turned : (x t : Table) → is_lt (cmp x t) ≡ false → is_le (cmp t x) ≡ true
-  le_turned x t h = ap is_le (total.antisymm t x) ∙ not_lt_turned (cmp x t) h
-
-  all_behind : (t x : Table) (xs : List Table) → is_le (cmp t x) ≡ true → list_all (λ u. is_le (cmp x u)) xs ≡ true → list_all (λ u. is_le (cmp t u)) xs ≡ true
-  all_behind t x [] h all = refl
-  all_behind t x (u ∷ us) h all =
-      let p = and_parts (is_le (cmp x u)) (list_all (λ v. is_le (cmp x v)) us) all in
-      and_from _ _ (le_chain t x u h p.0) (all_behind t x us h p.1)
-
--- what holds of each holds with one more of which it holds
-all_put_in : (p : Table → Bool) (cmp : Table → Table → Ordering) (t : Table) (xs : List Table) → p t ≡ true → list_all p xs ≡ true → list_all p (put_in cmp t xs) ≡ true
-all_put_in p cmp t [] one all = and_from _ _ one refl
-all_put_in p cmp t (x ∷ xs) one all =
-    let parts = and_parts (p x) (list_all p xs) all in
-    either (is_lt (cmp x t)) (and_from _ _ parts.0 (all_put_in p cmp t xs one parts.1)) (and_from _ _ one (and_from _ _ parts.0 parts.1))
-  where
-    either : (b : Bool) → list_all p (x ∷ put_in cmp t xs) ≡ true → list_all p (t ∷ x ∷ xs) ≡ true → list_all p (cond b (x ∷ put_in cmp t xs) (t ∷ x ∷ xs)) ≡ true
-    either true a c = a
-    either false a c = c
-
-all_put_all_in : (p : Table → Bool) (cmp : Table → Table → Ordering) (xs ts : List Table) → list_all p xs ≡ true → list_all p ts ≡ true → list_all p (put_all_in cmp xs ts) ≡ true
-all_put_all_in p cmp [] ts more all = all
-all_put_all_in p cmp (x ∷ xs) ts more all =
-    let parts = and_parts (p x) (list_all p xs) more in
-    all_put_all_in p cmp xs (put_in cmp x ts) parts.1 (all_put_in p cmp x ts parts.0 all)
-
-all_filter : (p q : Table → Bool) (xs : List Table) → list_all p xs ≡ true → list_all p (filter q xs) ≡ true
-all_filter p q [] all = refl
-all_filter p q (x ∷ xs) all =
-    let parts = and_parts (p x) (list_all p xs) all in
-    either (q x) (and_from _ _ parts.0 (all_filter p q xs parts.1)) (all_filter p q xs parts.1)
-  where
-    either : (b : Bool) → list_all p (x ∷ filter q xs) ≡ true → list_all p (filter q xs) ≡ true → list_all p (cond b (x ∷ filter q xs) (filter q xs)) ≡ true
-    either true a c = a
-    either false a c = c
-
 -- ---- sorted
-
-sorted_put_in : (cmp : Table → Table → Ordering) → IsTotalOrder cmp → (t : Table) (xs : List Table) → is_sorted cmp xs ≡ true → is_sorted cmp (put_in cmp t xs) ≡ true
-sorted_put_in cmp total t [] sorted = refl
-sorted_put_in cmp total t (x ∷ xs) sorted =
-    let parts = and_parts (list_all (λ u. is_le (cmp x u)) xs) (is_sorted cmp xs) sorted in
-    let behind = sorted_put_in cmp total t xs parts.1 in
-    elim (cases_Bool (is_lt (cmp x t))) [
-      | inl lt ↦ ap (λ b. is_sorted cmp (cond b (x ∷ put_in cmp t xs) (t ∷ x ∷ xs))) lt ∙ and_from _ _ (all_put_in (λ u. is_le (cmp x u)) cmp t xs (lt_le _ lt) parts.0) behind
-      | inr ge ↦
-          let le = le_turned total x t ge in
-          ap (λ b. is_sorted cmp (cond b (x ∷ put_in cmp t xs) (t ∷ x ∷ xs))) ge ∙ and_from _ _ (and_from _ _ le (all_behind total t x xs le parts.0)) sorted
-    ]
-
-sorted_put_all_in : (cmp : Table → Table → Ordering) → IsTotalOrder cmp → (xs ts : List Table) → is_sorted cmp ts ≡ true → is_sorted cmp (put_all_in cmp xs ts) ≡ true
-sorted_put_all_in cmp total [] ts sorted = sorted
-sorted_put_all_in cmp total (x ∷ xs) ts sorted = sorted_put_all_in cmp total xs (put_in cmp x ts) (sorted_put_in cmp total x ts sorted)
-
-sorted_filter : (cmp : Table → Table → Ordering) (q : Table → Bool) (xs : List Table) → is_sorted cmp xs ≡ true → is_sorted cmp (filter q xs) ≡ true
-sorted_filter cmp q [] sorted = refl
-sorted_filter cmp q (x ∷ xs) sorted =
-    let parts = and_parts (list_all (λ u. is_le (cmp x u)) xs) (is_sorted cmp xs) sorted in
-    let behind = sorted_filter cmp q xs parts.1 in
-    either (q x) (and_from _ _ (all_filter (λ u. is_le (cmp x u)) q xs parts.0) behind) behind
-  where
-    either : (b : Bool) → is_sorted cmp (x ∷ filter q xs) ≡ true → is_sorted cmp (filter q xs) ≡ true → is_sorted cmp (cond b (x ∷ filter q xs) (filter q xs)) ≡ true
-    either true a c = a
-    either false a c = c
 
 sorted_level : (e : Changes) (level : ℕ) (ts : List Table) → is_sorted (table_cmp level) ts ≡ true → is_sorted (table_cmp level) (edited_level e level ts) ≡ true
 sorted_level e level ts sorted =
-    sorted_put_all_in (table_cmp level) (table_cmp-total level) (added_to e level) (filter (λ t. not (removes e level t)) ts) (sorted_filter (table_cmp level) (λ t. not (removes e level t)) ts sorted)
+    sorted_put_all_in (table_cmp-total level) (added_to e level) (filter (λ t. not (removes e level t)) ts) (sorted_filter (table_cmp level) (λ t. not (removes e level t)) ts sorted)
 
 sorted_from : (level : ℕ) (e : Changes) (levels : LevelLists) → are_sorted_from level levels ≡ true → are_sorted_from level (edited_from level e levels) ≡ true
 sorted_from level e [] sorted = refl
@@ -138,7 +52,7 @@ ranges_added level (a ∷ adds) all =
 
 ranges_level : (e : Changes) (level : ℕ) (ts : List Table) → list_all (λ a. has_range a.1) e.added ≡ true → list_all has_range ts ≡ true → list_all has_range (edited_level e level ts) ≡ true
 ranges_level e level ts more all =
-    all_put_all_in has_range (table_cmp level) (added_to e level) (filter (λ t. not (removes e level t)) ts) (ranges_added level e.added more) (all_filter has_range (λ t. not (removes e level t)) ts all)
+    all_put_all_in (table_cmp level) has_range (added_to e level) (filter (λ t. not (removes e level t)) ts) (ranges_added level e.added more) (all_filter has_range (λ t. not (removes e level t)) ts all)
 
 ranges_from : (level : ℕ) (e : Changes) (levels : LevelLists) → list_all (λ a. has_range a.1) e.added ≡ true → have_ranges levels ≡ true → have_ranges (edited_from level e levels) ≡ true
 ranges_from level e [] more all = refl

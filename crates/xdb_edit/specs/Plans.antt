@@ -3,8 +3,7 @@ use Rattle.std.specs.Prelude.{ℕ, zero, suc, ◌-◌, ◌*◌, ◌^◌, Bool, L
 use Rattle.std.specs.declared.cmp.Ordering.{Ordering}
 use Rattle.std.specs.List.{list_any, flat_map}
 use Rattle.std.specs.Ordering.{nat_cmp}
-use Rattle.xdb_key.specs.Bounds.{Bounds, bounds, meets}
-use Rattle.xdb_key.specs.Order.{is_below}
+use Rattle.xdb_key.specs.Bounds.{Bounds, bounds, meets, lesser, greater}
 use Rattle.xdb_meta.specs.Table.{Table, bounds_of}
 use Rattle.xdb_edit.specs.Versions.{LevelLists, tables_of, put_all_in, or_else}
 
@@ -15,12 +14,6 @@ pub record Planned : Type 0 where
   pub inputs : List (ℕ × ℕ)
   pub hull : Bounds
   pub floor : List Bounds
-
-abbrev pub lesser : List ℕ → List ℕ → List ℕ
-lesser a b = if is_below b a then b else a
-
-abbrev pub greater : List ℕ → List ℕ → List ℕ
-greater a b = if is_below a b then b else a
 
 -- the least range with a range and the bounds of the tables
 abbrev pub hull_over : Bounds → List Table → Bounds

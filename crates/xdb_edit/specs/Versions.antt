@@ -2,7 +2,8 @@
 use Rattle.std.specs.Prelude.{ℕ, zero, suc, Bool, true, ◌&&◌, not, List, [], ◌∷◌, take, filter, Option, Some, None, ◌==◌, is_none, if◌then◌else◌}
 use Rattle.std.specs.declared.cmp.Ordering.{Ordering}
 use Rattle.std.specs.List.{list_all, list_any, filter_map}
-use Rattle.std.specs.Ordering.{nat_cmp, is_lt, is_le, ordering_then}
+use Rattle.std.specs.Ordering.{nat_cmp, ordering_then}
+pub use Rattle.xdb_lists.specs.Sorted.{is_sorted, put_in, put_all_in}
 use Rattle.xdb_key.specs.Bounds.{meets}
 use Rattle.xdb_key.specs.Order.{key_cmp, is_below, is_upto}
 use Rattle.xdb_meta.specs.Table.{Table, bounds_of}
@@ -20,15 +21,6 @@ no_tables = [] ∷ [] ∷ [] ∷ [] ∷ [] ∷ [] ∷ [] ∷ []
 abbrev pub table_cmp : ℕ → Table → Table → Ordering
 table_cmp zero a b = ordering_then (nat_cmp a.seq_hi b.seq_hi) (nat_cmp a.num b.num)
 table_cmp (suc level) a b = ordering_then (key_cmp a.lo b.lo) (nat_cmp a.num b.num)
-
--- the tables with one more, before the first that isn't before it
-abbrev pub put_in : (Table → Table → Ordering) → Table → List Table → List Table
-put_in cmp t [] = t ∷ []
-put_in cmp t (x ∷ xs) = if is_lt (cmp x t) then x ∷ put_in cmp t xs else t ∷ x ∷ xs
-
-abbrev pub put_all_in : (Table → Table → Ordering) → List Table → List Table → List Table
-put_all_in cmp [] ts = ts
-put_all_in cmp (x ∷ xs) ts = put_all_in cmp xs (put_in cmp x ts)
 
 -- the edit removes the table from the level
 abbrev pub removes : Changes → ℕ → Table → Bool
@@ -108,11 +100,6 @@ overlap (l0 ∷ rest) = meeting_among rest
 -- what the edit removes is there, and what it leaves doesn't overlap
 abbrev pub applies : LevelLists → Changes → Bool
 applies levels e = is_none (missing levels e) && is_none (overlap (edited levels e))
-
--- each table comes before those behind it
-abbrev pub is_sorted : (Table → Table → Ordering) → List Table → Bool
-is_sorted cmp [] = true
-is_sorted cmp (t ∷ ts) = list_all (λ u. is_le (cmp t u)) ts && is_sorted cmp ts
 
 -- each table ends before those behind it begin
 abbrev pub is_disjoint : List Table → Bool

@@ -1,15 +1,13 @@
 -- Levels, each at its place.
-use Rattle.std.proofs.Common.{◌≡◌, ℕ, zero, suc, ◌+◌, ◌<◌, Bool, true, false, cond, eqb, List, [], ◌∷◌, ◌++◌, length, get_or, take, filter, replicate, Option, Some, None, refl, sym, ap, ap₂, ◌∙◌, inl, inr, arith}
+use Rattle.std.proofs.Common.{◌≡◌, ℕ, zero, suc, ◌+◌, ◌<◌, Bool, true, false, cond, eqb, List, [], ◌∷◌, ◌++◌, length, get_or, take, replicate, Option, Some, None, refl, sym, ap, ap₂, ◌∙◌, arith}
 use Rattle.std.specs.List.{list_all, filter_map, cons_option}
-use Rattle.std.specs.declared.cmp.Ordering.{Ordering}
-use Rattle.std.specs.Ordering.{is_le}
-use Rattle.std.proofs.lemmas.Bool.{and_parts, and_from, cases_Bool, cond-true, cond-false, eq-eqb, ne_eqb}
+use Rattle.std.proofs.lemmas.Bool.{and_parts, and_from, cond-true, cond-false, eq-eqb, ne_eqb}
 use Rattle.std.proofs.lemmas.List.{append-nil, take_more}
 use Rattle.std.proofs.lemmas.List.Elements.{filter_map-append}
+use Rattle.std.proofs.lemmas.List.Sums.{AllPass-from_list_all}
 use Rattle.xdb_meta.specs.Table.{Table}
 use Rattle.xdb_edit.specs.Changes.{Changes}
 use Rattle.xdb_edit.specs.Versions.{LevelLists, table_cmp, edited_level, edited_from, tables_of, is_sorted, is_disjoint, are_sorted_from, are_disjoint, has_range, have_ranges}
-use Rattle.xdb_levels.proofs.MeetingLaws.{all_at}
 
 pub tables_of-get_or : (levels : LevelLists) (i : ℕ) → tables_of levels i ≡ get_or levels i []
 tables_of-get_or [] i = refl
@@ -36,26 +34,7 @@ sorted_at first (ts ∷ rest) (suc i) level d sorted l h =
 pub disjoint_at : (levels : LevelLists) (i : ℕ) (d : List Table) → are_disjoint levels ≡ true → 0 < i → i < length levels → is_disjoint (get_or levels i d) ≡ true
 disjoint_at [] i d h some l = absurd (omega arith)
 disjoint_at (ts ∷ rest) zero d h some l = absurd (omega arith)
-disjoint_at (ts ∷ rest) (suc i) d h some l = all_at is_disjoint rest i d h (omega arith)
-
--- what stays of a sorted level is sorted
-all_filter : (p q : Table → Bool) (xs : List Table) → list_all p xs ≡ true → list_all p (filter q xs) ≡ true
-all_filter p q [] all = refl
-all_filter p q (x ∷ xs) all =
-    let parts = and_parts (p x) (list_all p xs) all in
-    elim (cases_Bool (q x)) [
-      | inl yes' ↦ ap (list_all p) (cond-true (q x) (x ∷ filter q xs) (filter q xs) yes') ∙ and_from _ _ parts.0 (all_filter p q xs parts.1)
-      | inr no' ↦ ap (list_all p) (cond-false (q x) (x ∷ filter q xs) (filter q xs) no') ∙ all_filter p q xs parts.1
-    ]
-
-pub sorted_filter : (cmp : Table → Table → Ordering) (q : Table → Bool) (xs : List Table) → is_sorted cmp xs ≡ true → is_sorted cmp (filter q xs) ≡ true
-sorted_filter cmp q [] sorted = refl
-sorted_filter cmp q (x ∷ xs) sorted =
-    let parts = and_parts (list_all (λ u. is_le (cmp x u)) xs) (is_sorted cmp xs) sorted in
-    elim (cases_Bool (q x)) [
-      | inl yes' ↦ ap (is_sorted cmp) (cond-true (q x) (x ∷ filter q xs) (filter q xs) yes') ∙ and_from _ _ (all_filter (λ u. is_le (cmp x u)) q xs parts.0) (sorted_filter cmp q xs parts.1)
-      | inr no' ↦ ap (is_sorted cmp) (cond-false (q x) (x ∷ filter q xs) (filter q xs) no') ∙ sorted_filter cmp q xs parts.1
-    ]
+disjoint_at (ts ∷ rest) (suc i) d h some l = AllPass-from_list_all is_disjoint rest h i d (omega arith)
 
 -- levels without tables
 pub empty_sorted : (first n : ℕ) → are_sorted_from first (replicate n []) ≡ true

@@ -1,6 +1,5 @@
 pub mod NameLaws
 pub mod MeetingLaws
-pub mod StableLaws
 pub mod LevelLaws
 pub mod WalkLaws
 pub mod EditLaws

@@ -4,6 +4,8 @@ use Rattle.std.specs.List.{list_all, AllWithin}
 use Rattle.std.specs.List.Sorted.{IsPartitionedBy, IsPartitionPoint}
 use Rattle.std.proofs.lemmas.Bool.{and_parts, and_from, and_left, and_right, cases_order, cases_Bool, not-true, not-false, cond-true, cond-false}
 use Rattle.std.proofs.lemmas.List.{length-drop, get_or-drop}
+use Rattle.std.proofs.lemmas.List.Elements.{All-drop}
+use Rattle.std.proofs.lemmas.List.Sums.{AllPass-from_list_all, list_all-from_AllPass}
 use Rattle.xdb_key.specs.Bounds.{Bounds, meets}
 use Rattle.xdb_key.specs.Order.{is_below, is_upto}
 use Rattle.xdb_key.proofs.OrderLaws.{upto-not_below, upto_from_below, below_trans, upto_below, upto_trans}
@@ -11,21 +13,8 @@ use Rattle.xdb_meta.specs.Table.{Table, bounds_of}
 use Rattle.xdb_edit.specs.Versions.{is_disjoint, has_range}
 use Rattle.xdb_edit.specs.Plans.{meeting}
 
--- ---- what holds of all holds at each place
-
-pub all_at : {X : Type 0} (p : X → Bool) (xs : List X) (i : ℕ) (d : X) → list_all p xs ≡ true → i < length xs → p (get_or xs i d) ≡ true
-all_at p [] i d h l = absurd (omega arith)
-all_at p (x ∷ xs) zero d h l = (and_parts (p x) (list_all p xs) h).0
-all_at p (x ∷ xs) (suc i) d h l = all_at p xs i d (and_parts (p x) (list_all p xs) h).1 (omega arith)
-
-pub all_from_each : {X : Type 0} (p : X → Bool) (xs : List X) (d : X) → ((i : ℕ) → i < length xs → p (get_or xs i d) ≡ true) → list_all p xs ≡ true
-all_from_each p [] d h = refl
-all_from_each p (x ∷ xs) d h = and_from (p x) (list_all p xs) (h 0 (omega arith)) (all_from_each p xs d (λ i l. h (suc i) (omega arith)))
-
 pub all_drop : {X : Type 0} (p : X → Bool) (n : ℕ) (xs : List X) → list_all p xs ≡ true → list_all p (drop n xs) ≡ true
-all_drop p zero xs h = h
-all_drop p (suc n) [] h = refl
-all_drop p (suc n) (x ∷ xs) h = all_drop p n xs (and_parts (p x) (list_all p xs) h).1
+all_drop p n xs h = list_all-from_AllPass p (drop n xs) (All-drop (λ x. p x ≡ true) n xs (AllPass-from_list_all p xs h))
 
 pub disjoint_drop : (n : ℕ) (ts : List Table) → is_disjoint ts ≡ true → is_disjoint (drop n ts) ≡ true
 disjoint_drop zero ts h = h
@@ -35,7 +24,7 @@ disjoint_drop (suc n) (t ∷ ts) h = disjoint_drop n ts (and_parts (list_all (λ
 apart_at : (ts : List Table) (i j : ℕ) (d : Table) → is_disjoint ts ≡ true → i < j → j < length ts → is_upto (get_or ts i d).hi (get_or ts j d).lo ≡ true
 apart_at [] i j d h less l = absurd (omega arith)
 apart_at (t ∷ ts) i zero d h less l = absurd (omega arith)
-apart_at (t ∷ ts) zero (suc j) d h less l = all_at (λ u. is_upto t.hi u.lo) ts j d (and_parts (list_all (λ u. is_upto t.hi u.lo) ts) (is_disjoint ts) h).0 (omega arith)
+apart_at (t ∷ ts) zero (suc j) d h less l = AllPass-from_list_all (λ u. is_upto t.hi u.lo) ts (and_parts (list_all (λ u. is_upto t.hi u.lo) ts) (is_disjoint ts) h).0 j d (omega arith)
 apart_at (t ∷ ts) (suc i) (suc j) d h less l = apart_at ts i j d (and_parts (list_all (λ u. is_upto t.hi u.lo) ts) (is_disjoint ts) h).1 (omega arith) (omega arith)
 
 -- ---- what passes a test also passes where it stands earlier
@@ -43,7 +32,7 @@ apart_at (t ∷ ts) (suc i) (suc j) d h less l = apart_at ts i j d (and_parts (l
 partitioned_by : (p : Table → Bool) (ts : List Table) → is_disjoint ts ≡ true → list_all has_range ts ≡ true → ((s t : Table) → has_range s ≡ true → has_range t ≡ true → is_upto s.hi t.lo ≡ true → p t ≡ true → p s ≡ true) → IsPartitionedBy p ts
 partitioned_by p ts disjoint ranges step = λ i j d i_le_j inside h. elim (cases_order i j) [
   | inl e ↦ ap (λ n. p (get_or ts n d)) e ∙ h
-  | inr (inl less) ↦ step (get_or ts i d) (get_or ts j d) (all_at has_range ts i d ranges (omega arith)) (all_at has_range ts j d ranges inside) (apart_at ts i j d disjoint less inside) h
+  | inr (inl less) ↦ step (get_or ts i d) (get_or ts j d) (AllPass-from_list_all has_range ts ranges i d (omega arith)) (AllPass-from_list_all has_range ts ranges j d inside) (apart_at ts i j d disjoint less inside) h
   | inr (inr more) ↦ absurd (omega arith)
 ]
 

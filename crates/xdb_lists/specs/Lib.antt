@@ -1,3 +1,4 @@
--- Lists in the order of a number, and lists of numbers.
+-- Lists in the order of a number or of a comparison, and lists of numbers.
 pub mod Keyed
 pub mod Numbers
+pub mod Sorted

@@ -1,12 +1,17 @@
-//! Lists in the order of a number, and lists of numbers, the least first: definitions, and their laws, each a
-//! function that does nothing.
+//! Lists in the order of a number, lists of numbers, the least first, and lists in the order of a comparison:
+//! definitions, and their laws, each a function that does nothing.
 #![tactic(auto)]
 
-ghost use Rattle.std.specs.Prelude.{◌≡◌, ◌<◌, ◌==◌, ◌&&◌, ◌||◌, ◌++◌, not, ℕ, Bool, List, [], ◌∷◌, get_or, set, map, Some, None, Result, Ok, Err, IsTrue, if◌then◌else◌};
-ghost use Rattle.std.specs.List.{insert, remove, All};
+ghost use Rattle.std.specs.Prelude.{◌≡◌, ◌<◌, ◌==◌, ◌&&◌, ◌||◌, ◌++◌, not, ℕ, Bool, List, [], ◌∷◌, get_or, set, map, filter, reverse, Some, None, Result, Ok, Err, IsTrue, true, if◌then◌else◌};
+ghost use Rattle.std.specs.declared.cmp.Ordering.{Ordering};
+ghost use Rattle.std.specs.Cmp.{IsTotalOrder};
+ghost use Rattle.std.specs.List.{insert, remove, All, list_all};
+ghost use Rattle.std.specs.List.Sorted.{IsSortedBy, IsStableBy};
+ghost use Rattle.std.specs.Ordering.{is_lt};
 ghost use Rattle.std.specs.Result.{is_ok};
 ghost use Rattle.xdb_lists.specs.Keyed.{IsRising, at_key, without, replaced};
 ghost use Rattle.xdb_lists.specs.Numbers.{is_among, NumbersRise, EndsRising};
+ghost use Rattle.xdb_lists.specs.Sorted.{is_sorted, put_all_in};
 
 /// A search tells what stands under the number.
 pub fn searches_tell<X>()
@@ -55,4 +60,17 @@ pub fn replaced_ones_are_found<X>()
     ensures all { (key : X → ℕ) (test : X → Bool) (n : ℕ) (q : X) (xs : List X) → All (λ x. IsTrue (test x)) xs → at_key key n xs ≡ Some q → IsTrue (test q) }
     ensures found { (key : X → ℕ) (n : ℕ) (q r : X) (xs : List X) → key r ≡ n → at_key key n xs ≡ Some q → at_key key n (replaced key r n xs) ≡ Some r }
     ensures rising { (key : X → ℕ) (xs ys : List X) → map key ys ≡ map key xs → IsRising key xs → IsRising key ys }
+{}
+
+/// A sorted list stays so where elements are left out or put in, and what holds of each still does.
+pub fn sorted_lists_stay<X>()
+    ensures filter { (cmp : X → X → Ordering) (keeps : X → Bool) (xs : List X) → is_sorted cmp xs ≡ true → is_sorted cmp (filter keeps xs) ≡ true }
+    ensures put_in { (cmp : X → X → Ordering) → IsTotalOrder cmp → (more xs : List X) → is_sorted cmp xs ≡ true → is_sorted cmp (put_all_in cmp more xs) ≡ true }
+    ensures all { (cmp : X → X → Ordering) (test : X → Bool) (more xs : List X) → list_all test more ≡ true → list_all test xs ≡ true → list_all test (put_all_in cmp more xs) ≡ true }
+{}
+
+/// Elements put in one by one stand as a stable sort puts them that has the last of them first and the list behind.
+pub fn one_sort_puts_all_in<X>()
+    ensures { (cmp : X → X → Ordering) → IsTotalOrder cmp → (more xs made : List X) → is_sorted cmp xs ≡ true
+        → IsSortedBy (λ a b. is_lt (cmp a b)) made → IsStableBy (λ a b. is_lt (cmp a b)) (reverse more ++ xs) made → made ≡ put_all_in cmp more xs }
 {}

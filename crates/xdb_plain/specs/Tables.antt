@@ -6,7 +6,7 @@ use Rattle.xdb_key.specs.Bounds.{Bounds, bounds}
 use Rattle.xdb_key.specs.Ops.{op_hull}
 use Rattle.xdb_key.specs.declared.op.Op.{Op}
 use Rattle.xdb_key.specs.declared.op.Op.TheVariants.{Set, Del, DelSpan}
-use Rattle.xdb_edit.specs.Plans.{lesser, greater}
+use Rattle.xdb_key.specs.Bounds.{lesser, greater}
 
 pub record TableOps : Type 0 where
   pub name : List ℕ

@@ -1,11 +1,11 @@
 -- The spans of a view: within its range, and their own pieces.
 use Rattle.std.proofs.Common.{◌≡◌, ℕ, Bool, true, false, not, ◌&&◌, cond, List, [], ◌∷◌, ◌++◌, map, Option, Some, None, IfSome, Ok, IsOkAnd, IsTrue, refl, sym, ap, ◌∙◌, subst, inl, inr}
-use Rattle.std.proofs.lemmas.Bool.{and_from, cases_Bool, and_parts}
-use Rattle.xdb_key.proofs.OrderLaws.{upto-itself, upto-not_below, below-successor}
+use Rattle.std.proofs.lemmas.Bool.{and_from, and_parts}
+use Rattle.xdb_key.proofs.OrderLaws.{upto-not_below, below-successor, lesser_upto_second, second_upto_greater}
 use Rattle.xdb_key.specs.Bounds.{Bounds, bounds, holds, meets, covers, successor}
 use Rattle.xdb_key.specs.Entries.{Point, Tombstone, tombstone, Reach}
 use Rattle.xdb_key.specs.Order.{is_below, is_upto}
-use Rattle.xdb_rangedel.specs.Clip.{later_of, earlier_of, starting_from, ending_by, part_in, parts_in}
+use Rattle.xdb_rangedel.specs.Clip.{starting_from, ending_by, part_in, parts_in}
 use Rattle.xdb_rangedel.specs.Members.{Has, SameMembers}
 use Rattle.xdb_rangedel.specs.Pieces.{ends, splits, cut_span, cut_spans, cut_all, pieces, is_ordered, AreFragments}
 use Rattle.xdb_rangedel.proofs.FragmentLaws.{All-at_Has}
@@ -45,18 +45,6 @@ renumbered_pieces s ts f = all_same (ends (map (span_for s) ts)) (map (span_for 
 
 -- ---- within the range
 
-later_upto : (a b : List ℕ) → is_upto a (later_of a b) ≡ true
-later_upto a b = elim (cases_Bool (is_below b a)) [
-  | inl h ↦ ap (λ x. is_upto a (cond x a b)) h ∙ upto-itself a
-  | inr h ↦ ap (λ x. is_upto a (cond x a b)) h ∙ upto-not_below a b ∙ ap not h
-]
-
-earlier_upto : (a b : List ℕ) → is_upto (earlier_of a b) a ≡ true
-earlier_upto a b = elim (cases_Bool (is_below a b)) [
-  | inl h ↦ ap (λ x. is_upto (cond x a b) a) h ∙ upto-itself a
-  | inr h ↦ ap (λ x. is_upto (cond x a b) a) h ∙ upto-not_below b a ∙ ap not h
-]
-
 kept_if : {B : Type 0} (b : Bool) (y z : B) → cond b (Some y) None ≡ Some z → y ≡ z
 kept_if true y z e = cc
 kept_if false y z e = absurd (cc)
@@ -64,7 +52,7 @@ kept_if false y z e = absurd (cc)
 part_within : (r : Bounds) (x t : Tombstone) → part_in r x ≡ Some t → covers r t.range ≡ true
 part_within r x t e =
     let is : starting_from r.lo (ending_by r.hi x) ≡ t = kept_if (meets x.range r) (starting_from r.lo (ending_by r.hi x)) t e in
-    subst (λ u. covers r u.range ≡ true) is (and_from _ _ (later_upto r.lo x.range.lo) (earlier_upto r.hi x.range.hi))
+    subst (λ u. covers r u.range ≡ true) is (and_from _ _ (second_upto_greater x.range.lo r.lo) (lesser_upto_second x.range.hi r.hi))
 
 spans_by : (b : Bool) (r : Bounds) (s : ℕ) (ts : List Tombstone) (t : Tombstone) → Has (cond b (map (span_for s) (parts_in r ts)) []) t → covers r t.range ≡ true
 spans_by false r s ts t h = absurd h

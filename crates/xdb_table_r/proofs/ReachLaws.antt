@@ -1,50 +1,18 @@
 -- The extent of one thing more.
-use Rattle.std.proofs.Common.{◌≡◌, ℕ, min, max, Bool, true, false, not, cond, List, [], ◌∷◌, ◌++◌, Option, Some, None, refl, sym, ap, ◌∙◌, subst, arith, inl, inr, ◌⊎◌, length, get_or, map, take, ◌+◌, ◌<◌, append_assoc}
+use Rattle.std.proofs.Common.{◌≡◌, ℕ, min, max, Bool, true, false, cond, List, [], ◌∷◌, ◌++◌, Option, Some, None, refl, sym, ap, ◌∙◌, subst, arith, inl, inr, ◌⊎◌, length, get_or, map, take, ◌+◌, ◌<◌, append_assoc}
 use Rattle.std.proofs.lemmas.List.{map-append, take_more}
-use Rattle.std.proofs.lemmas.Bool.{cases_Bool, cases_order}
-use Rattle.xdb_key.proofs.OrderLaws.{upto-itself, upto_from_below, upto_trans, upto-not_below, below_upto, upto_below}
+use Rattle.std.proofs.lemmas.Bool.{cases_order}
+use Rattle.xdb_key.proofs.OrderLaws.{upto-itself, upto_trans, below_upto, upto_below, lesser_upto_first, lesser_upto_second, first_upto_greater, second_upto_greater}
+use Rattle.xdb_key.specs.Bounds.{lesser, greater}
 use Rattle.xdb_key.specs.Entries.{Reach, IsReach}
-use Rattle.xdb_key.specs.Order.{is_below, is_upto}
+use Rattle.xdb_key.specs.Order.{is_below}
 use Rattle.xdb_rangedel.specs.Members.{Has, SameMembers}
 use Rattle.xdb_rangedel.proofs.MemberLaws.{Has-append_left, Has-append_right, Has-append_cases}
 use Rattle.xdb_table_r.specs.Reaches.{IsInside, IsExtentOf, joined, widened}
 
-not_false : (a b : List ℕ) → is_below a b ≡ false → is_upto b a ≡ true
-not_false a b h = upto-not_below b a ∙ ap not h
-
-abbrev lo_of : List ℕ → List ℕ → List ℕ
-lo_of a b = cond (is_below b a) b a
-
-abbrev hi_of : List ℕ → List ℕ → List ℕ
-hi_of a b = cond (is_below a b) b a
-
-lo_first : (a b : List ℕ) → is_upto (lo_of a b) a ≡ true
-lo_first a b = elim (cases_Bool (is_below b a)) [
-  | inl h ↦ ap (λ x. is_upto (cond x b a) a) h ∙ upto_from_below b a h
-  | inr h ↦ ap (λ x. is_upto (cond x b a) a) h ∙ upto-itself a
-]
-
-lo_second : (a b : List ℕ) → is_upto (lo_of a b) b ≡ true
-lo_second a b = elim (cases_Bool (is_below b a)) [
-  | inl h ↦ ap (λ x. is_upto (cond x b a) b) h ∙ upto-itself b
-  | inr h ↦ ap (λ x. is_upto (cond x b a) b) h ∙ not_false b a h
-]
-
-hi_first : (a b : List ℕ) → is_upto a (hi_of a b) ≡ true
-hi_first a b = elim (cases_Bool (is_below a b)) [
-  | inl h ↦ ap (λ x. is_upto a (cond x b a)) h ∙ upto_from_below a b h
-  | inr h ↦ ap (λ x. is_upto a (cond x b a)) h ∙ upto-itself a
-]
-
-hi_second : (a b : List ℕ) → is_upto b (hi_of a b) ≡ true
-hi_second a b = elim (cases_Bool (is_below a b)) [
-  | inl h ↦ ap (λ x. is_upto b (cond x b a)) h ∙ upto-itself b
-  | inr h ↦ ap (λ x. is_upto b (cond x b a)) h ∙ not_false a b h
-]
-
 pub joined_is_reach : (a b : Reach) → IsReach a → IsReach b → IsReach (joined a b)
 joined_is_reach a b p q = record {
-  ordered = below_upto (lo_of a.lo b.lo) a.hi (hi_of a.hi b.hi) (upto_below (lo_of a.lo b.lo) a.lo a.hi (lo_first a.lo b.lo) p.ordered) (hi_first a.hi b.hi);
+  ordered = below_upto (lesser a.lo b.lo) a.hi (greater a.hi b.hi) (upto_below (lesser a.lo b.lo) a.lo a.hi (lesser_upto_first a.lo b.lo) p.ordered) (first_upto_greater a.hi b.hi);
   numbers = omega (arith, p.numbers, q.numbers);
   small = omega (arith, p.small, q.small);
 }
@@ -53,16 +21,16 @@ joined_is_reach a b p q = record {
 
 from_first : (a b h : Reach) → IsInside h a → IsInside h (joined a b)
 from_first a b h i = record {
-  lo = upto_trans (lo_of a.lo b.lo) a.lo h.lo (lo_first a.lo b.lo) i.lo;
-  hi = upto_trans h.hi a.hi (hi_of a.hi b.hi) i.hi (hi_first a.hi b.hi);
+  lo = upto_trans (lesser a.lo b.lo) a.lo h.lo (lesser_upto_first a.lo b.lo) i.lo;
+  hi = upto_trans h.hi a.hi (greater a.hi b.hi) i.hi (first_upto_greater a.hi b.hi);
   seq_lo = omega (arith, i.seq_lo);
   seq_hi = omega (arith, i.seq_hi);
 }
 
 second_inside : (a b : Reach) → IsInside b (joined a b)
 second_inside a b = record {
-  lo = lo_second a.lo b.lo;
-  hi = hi_second a.hi b.hi;
+  lo = lesser_upto_second a.lo b.lo;
+  hi = second_upto_greater a.hi b.hi;
   seq_lo = omega arith;
   seq_hi = omega arith;
 }

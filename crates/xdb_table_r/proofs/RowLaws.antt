@@ -1,10 +1,9 @@
 -- Rows of one kind of block, one by one.
 use Rattle.std.proofs.Common.{◌≡◌, ℕ, zero, suc, ◌+◌, ◌-◌, ◌<◌, ◌≤◌, true, List, [], ◌∷◌, ◌++◌, length, take, Option, Some, None, refl, arith}
 use Rattle.std.specs.List.{AllByRecursion}
-use Rattle.std.proofs.lemmas.Bool.{and_parts, false≢true}
-use Rattle.std.specs.declared.cmp.Ordering.{Ordering}
-use Rattle.std.specs.declared.cmp.Ordering.TheVariants.{Less, Equal, Greater}
-use Rattle.std.specs.Ordering.{is_eq, is_lt}
+use Rattle.std.proofs.lemmas.Bool.{and_parts}
+use Rattle.std.specs.Cmp.{Equal-is}
+use Rattle.std.specs.Ordering.{is_eq}
 use Rattle.xdb_key.proofs.OrderLaws.{key_exact}
 use Rattle.xdb_key.specs.Order.{key_cmp}
 use Rattle.xdb_block.specs.declared.kind.BlockKind.{BlockKind}
@@ -14,18 +13,8 @@ use Rattle.xdb_block.specs.Spelling.{is_restart, left_out, entry_bytes, entries_
 use Rattle.xdb_table_w.specs.Files.{front}
 use Rattle.xdb_block.specs.Rows.{Row, nth, suits, follows, Follow}
 
-pub eq-tells : (r : Ordering) → is_eq r ≡ true → r ≡ Equal
-eq-tells Less h = absurd (false≢true h)
-eq-tells Equal h = refl
-eq-tells Greater h = absurd (false≢true h)
-
 pub same-tells : (a b : List ℕ) → is_eq (key_cmp a b) ≡ true → a ≡ b
-same-tells a b h = key_exact a b (eq-tells _ h)
-
-pub lt-tells : (r : Ordering) → is_lt r ≡ true → r ≡ Less
-lt-tells Less h = refl
-lt-tells Equal h = absurd (false≢true h)
-lt-tells Greater h = absurd (false≢true h)
+same-tells a b h = key_exact a b ((Equal-is _).0 h)
 
 pub follows_suits : (kind : BlockKind) (last : Option Row) (r : Row) → follows kind last r ≡ true → suits kind r ≡ true
 follows_suits kind None r h = h

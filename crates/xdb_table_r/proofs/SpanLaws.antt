@@ -1,10 +1,11 @@
 -- The spans of a block are fragments.
-use Rattle.std.proofs.Common.{◌≡◌, ℕ, ◌/◌, ◌%◌, ◌<◌, Bool, true, false, ◌||◌, cond, eqb, ltb, List, [], ◌∷◌, Option, Some, None, IsTrue, refl, sym, ap, ◌∙◌, arith, inl, inr, ◌⊎◌}
+use Rattle.std.proofs.Common.{◌≡◌, ℕ, ◌/◌, ◌%◌, ◌<◌, true, List, [], ◌∷◌, Option, Some, None, IsTrue, sym, ap, ◌∙◌, arith, inl, inr}
 use Rattle.std.specs.List.{AllByRecursion, AllPairs}
-use Rattle.std.proofs.lemmas.Bool.{and_parts, or_cases, eqb-true, ltb-true, false≢true}
+use Rattle.std.proofs.lemmas.Bool.{and_parts, or_cases, eqb-true}
+use Rattle.std.proofs.lemmas.Bool.Decides.{nat_tests}
 use Rattle.std.proofs.lemmas.List.Elements.{All-from_recursion}
 use Rattle.std.proofs.lemmas.List.Kept.{AllPairs-cons}
-use Rattle.std.specs.declared.cmp.Ordering.TheVariants.{Less, Equal, Greater}
+use Rattle.std.specs.Cmp.{Equal-is}
 use Rattle.std.specs.Ordering.{nat_cmp, is_lt, ordering_then}
 use Rattle.xdb_key.proofs.OrderLaws.{upto_trans, upto_from_below}
 use Rattle.xdb_key.specs.Bounds.{bounds}
@@ -18,7 +19,7 @@ use Rattle.xdb_rangedel.proofs.PartLaws.{precedes_tells}
 use Rattle.xdb_block.specs.declared.kind.BlockKind.TheVariants.{Spans}
 use Rattle.xdb_block.specs.Rows.{Row, user_part, trailer_part, suits, follows, Follow}
 use Rattle.xdb_table_r.specs.Opening.{tombstone_of, tombstones}
-use Rattle.xdb_table_r.proofs.RowLaws.{eq-tells, same-tells, follows_suits, all_suit}
+use Rattle.xdb_table_r.proofs.RowLaws.{same-tells, follows_suits, all_suit}
 
 span_trans : (s t u : Tombstone) → is_ordered t ≡ true → span_precedes s t ≡ true → span_precedes t u ≡ true → span_precedes s u ≡ true
 span_trans s t u some a b = elim (precedes_tells s t a) [
@@ -33,11 +34,7 @@ span_trans s t u some a b = elim (precedes_tells s t a) [
 ]
 
 less_tells : (x y : ℕ) → is_lt (nat_cmp x y) ≡ true → x < y
-less_tells x y h = by (ltb x y) (eqb x y) refl h where
-  by : (b d : Bool) → ltb x y ≡ b → is_lt (cond b Less (cond d Equal Greater)) ≡ true → x < y
-  by true d e h = ltb-true x y e
-  by false true e h = absurd (false≢true h)
-  by false false e h = absurd (false≢true h)
+less_tells x y h = grind (arith, nat_tests)
 
 ordered : (r : Row) → suits Spans r ≡ true → is_ordered (tombstone_of r) ≡ true
 ordered r h = (and_parts _ _ h).1
@@ -58,7 +55,7 @@ neighbours last r fits h =
           let parts = and_parts _ _ e in
           let lo : user_part last.key ≡ user_part r.key = same-tells _ _ parts.0 in
           let hi : last.value ≡ r.value = same-tells _ _ parts.1 in
-          let order = ap (λ o. is_lt (ordering_then o (nat_cmp (trailer_part r.key) (trailer_part last.key)))) (sym (eq-tells _ parts.0)) ∙ before in
+          let order = ap (λ o. is_lt (ordering_then o (nat_cmp (trailer_part r.key) (trailer_part last.key)))) (sym ((Equal-is _).0 parts.0)) ∙ before in
           precedes_same (tombstone_of last) (tombstone_of r) (λ i. bounds (lo i) (hi i)) (smaller (trailer_part r.key) (trailer_part last.key) (less_tells _ _ order) (code r fits2) (code last fits))
       | inr e ↦ precedes_apart (tombstone_of last) (tombstone_of r) e
     ]

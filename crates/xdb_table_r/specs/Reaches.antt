@@ -1,7 +1,7 @@
 -- The extent of what a part of a view holds: the least range with the hulls of its points and with its spans, and the
 -- least and the greatest of their numbers.
 use Rattle.std.specs.Prelude.{◌≡◌, ℕ, ◌≤◌, false, List, [], ◌++◌, map, min, max, Option, None, Some, Result, Ok, Err, IsOkAnd, IsTrue, if◌then◌else◌}
-use Rattle.xdb_key.specs.Bounds.{Bounds, bounds, covers, key_hull}
+use Rattle.xdb_key.specs.Bounds.{Bounds, bounds, covers, key_hull, lesser, greater}
 use Rattle.xdb_key.specs.Entries.{Point, Tombstone, Reach, reach}
 use Rattle.xdb_key.specs.Order.{is_below, is_upto}
 use Rattle.xdb_rangedel.specs.Clip.{later_of, earlier_of}
@@ -74,8 +74,7 @@ LiesWithin r e = IsTrue (covers r (bounds e.lo e.hi))
 -- ---- one more
 
 abbrev pub joined : Reach → Reach → Reach
-joined a b =
-    reach (bounds (if is_below b.lo a.lo then b.lo else a.lo) (if is_below a.hi b.hi then b.hi else a.hi)) (min a.seq_lo b.seq_lo) (max a.seq_hi b.seq_hi)
+joined a b = reach (bounds (lesser a.lo b.lo) (greater a.hi b.hi)) (min a.seq_lo b.seq_lo) (max a.seq_hi b.seq_hi)
 
 abbrev pub widened : Option Reach → Reach → Reach
 widened None b = b

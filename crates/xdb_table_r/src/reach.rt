@@ -1,12 +1,11 @@
 //! The extent of points and spans.
-ghost use Rattle.std.specs.Prelude.{◌≡◌, List, ◌++◌, map, IfOk, if◌then◌else◌};
+ghost use Rattle.std.specs.Prelude.{◌≡◌, List, ◌++◌, map, IfOk};
 ghost use Rattle.xdb_key.specs.Entries.{Reach};
-ghost use Rattle.xdb_key.specs.Order.{is_below};
 ghost use Rattle.xdb_table_r.specs.Reaches.{point_reach, span_reach, reaches, IsExtentOf, joined, widened};
 
 use std::alloc::AllocError;
 use std::marker::Model;
-use xdb_key::{Bound, Entry, Extent, KeyRange, Span, is_below};
+use xdb_key::{Bound, Entry, Extent, KeyRange, Span};
 
 /// Bounds and numbers so far.
 #[derive(Drop)]
@@ -118,21 +117,9 @@ fn joined(a: Reaching, b: Reaching) -> Reaching
     ensures { result ≡ joined a b }
 {
     Reaching {
-        lo: lesser(a.lo, b.lo),
-        hi: greater(a.hi, b.hi),
+        lo: a.lo.min(b.lo),
+        hi: b.hi.max(a.hi),
         seq_lo: a.seq_lo.min(b.seq_lo),
         seq_hi: a.seq_hi.max(b.seq_hi),
     }
-}
-
-fn lesser(a: Bound, b: Bound) -> Bound
-    ensures { result ≡ (if is_below b a then b else a) }
-{
-    if is_below(b.bytes(), a.bytes()) { b } else { a }
-}
-
-fn greater(a: Bound, b: Bound) -> Bound
-    ensures { result ≡ (if is_below a b then b else a) }
-{
-    if is_below(a.bytes(), b.bytes()) { b } else { a }
 }

@@ -1,6 +1,5 @@
 ghost use Rattle.std.specs.Prelude.{◌≡◌, ◌^◌, ◌<◌, map, IfOk, IfErr, IfSome, IsErrOf, false, []};
 ghost use Rattle.xdb_device.specs.Counted.{Counted};
-ghost use Rattle.xdb_rangedel.specs.Clip.{later_of, earlier_of};
 ghost use Rattle.xdb_rangedel.specs.Members.{SameMembers};
 ghost use Rattle.xdb_rangedel.specs.Pieces.{AreFragments};
 ghost use Rattle.xdb_table_r.specs.Views.{range_of, span_for, spans_in, shown, keys_of};
@@ -16,7 +15,7 @@ use crate::window::Window;
 use std::alloc::{AllocError, Global};
 use std::marker::Model;
 use xdb_device::{FileRef, Reader};
-use xdb_key::{Bound, Extent, KeyRange, Span, is_below};
+use xdb_key::{Bound, Extent, KeyRange, Span, greater, is_below, lesser};
 use xdb_rangedel::Fragments;
 
 /// A part of a table: the points from a bound on and below another, and the spans cut to these bounds. Where
@@ -91,7 +90,7 @@ impl<F: FileRef> View<F> {
         ensures tells { IfSome (F.bytes self.now.table.file) (λ b. TellsOf self.now.table.backing (Reaches (range_before (keys_of self.now) at.now) self.now.synthetic self.now.table.spans) result (part_at (range_before (keys_of self.now) at.now) self.now.synthetic self.now.table.index b)) }
     {
         let lo = self.window.lo.copy()?;
-        let hi = earlier(at, &self.window.hi)?;
+        let hi = lesser(&self.window.hi, at).copy()?;
         let synthetic = self.window.synthetic;
         extent_in(&self.table, &Window { lo, hi, synthetic }, dev)
     }
@@ -109,30 +108,10 @@ impl<F: FileRef> View<F> {
         ensures within { IfOk result (λ e. IfSome e (LiesWithin (range_from (keys_of self.now) at.now))) }
         ensures tells { IfSome (F.bytes self.now.table.file) (λ b. TellsOf self.now.table.backing (Reaches (range_from (keys_of self.now) at.now) self.now.synthetic self.now.table.spans) result (part_at (range_from (keys_of self.now) at.now) self.now.synthetic self.now.table.index b)) }
     {
-        let lo = later(at, &self.window.lo)?;
+        let lo = greater(&self.window.lo, at).copy()?;
         let hi = self.window.hi.copy()?;
         let synthetic = self.window.synthetic;
         extent_in(&self.table, &Window { lo, hi, synthetic }, dev)
-    }
-}
-
-fn earlier(a: &Bound, b: &Bound) -> Result<Bound, AllocError>
-    ensures { IfOk result (λ bound. bound ≡ earlier_of a.now b.now) }
-{
-    if is_below(a.bytes(), b.bytes()) {
-        a.copy()
-    } else {
-        b.copy()
-    }
-}
-
-fn later(a: &Bound, b: &Bound) -> Result<Bound, AllocError>
-    ensures { IfOk result (λ bound. bound ≡ later_of a.now b.now) }
-{
-    if is_below(b.bytes(), a.bytes()) {
-        a.copy()
-    } else {
-        b.copy()
     }
 }
 

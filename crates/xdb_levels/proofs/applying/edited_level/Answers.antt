@@ -8,8 +8,8 @@ use Rattle.xdb_meta.specs.Table.{Table}
 use Rattle.xdb_edit.specs.Versions.{table_cmp, removes, added_to}
 use Rattle.xdb_levels.specs.Names.{is_named}
 use Rattle.xdb_edit.proofs.VersionLaws.{table_cmp-total}
-use Rattle.xdb_levels.proofs.LevelLaws.{sorted_filter}
-use Rattle.xdb_levels.proofs.StableLaws.{put_all_in-sorted}
+use Rattle.xdb_lists.proofs.SortedLaws.{sorted_filter}
+use Rattle.xdb_lists.proofs.StableLaws.{put_all_in-sorted}
 use Rattle.xdb_levels.proofs.applying.edited_level.Goals as goal
 
 pub returns : goal.returns

@@ -9,5 +9,5 @@ pub invariant_of-result : goal.invariant_of-result
 invariant_of-result c =
     let a : Reach = reach (bounds c.a.inside.lo c.a.inside.hi) c.a.inside.seq_lo c.a.inside.seq_hi in
     let b : Reach = reach (bounds c.b.inside.lo c.b.inside.hi) c.b.inside.seq_lo c.b.inside.seq_hi in
-    let is : joined a b ≡ reach (bounds c.lesser.result c.greater.result) c.min.result c.max.result = λ i. reach (bounds (sym c.lesser.ensures i) (sym c.greater.ensures i)) (sym c.min.ensures i) (sym c.max.ensures i) in
+    let is : joined a b ≡ reach (bounds c.min.result c.max.result) c.min-2.result c.max-2.result = λ i. reach (bounds (sym c.min.ensures i) (sym c.max.ensures i)) (sym c.min-2.ensures i) (sym c.max-2.ensures i) in
     subst IsReach is (joined_is_reach a b c.a.invariant c.b.invariant)

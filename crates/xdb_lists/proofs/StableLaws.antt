@@ -1,51 +1,19 @@
--- Putting tables into a sorted list one by one gives what one stable sort gives, of the last first.
+-- Putting elements into a sorted list one by one gives what one stable sort gives, of the last first.
 use Rattle.std.proofs.Common.{◌≡◌, ℕ, suc, ◌<◌, ◌≤◌, Bool, true, false, not, ◌&&◌, cond, List, [], ◌∷◌, ◌++◌, length, get_or, filter, reverse, refl, sym, ap, ap₂, ◌∙◌, subst, append_assoc, inl, inr, arith}
 use Rattle.std.specs.List.{list_all}
 use Rattle.std.specs.List.Sorted.{IsSortedBy, IsStableBy, ties}
 use Rattle.std.specs.declared.cmp.Ordering.{Ordering}
 use Rattle.std.specs.declared.cmp.Ordering.TheVariants.{Less, Equal, Greater}
-use Rattle.std.specs.Ordering.{is_lt, is_le, is_gt, is_eq, ordering_reverse}
-use Rattle.std.specs.Cmp.{IsTotalOrder}
+use Rattle.std.specs.Ordering.{is_lt, is_le, is_eq, ordering_reverse}
+use Rattle.std.specs.Cmp.{IsTotalOrder, Equal-is}
 use Rattle.std.proofs.lemmas.Bool.{and_parts, and_from, cases_Bool, cond-true, cond-false, false≢true}
 use Rattle.std.proofs.lemmas.List.Elements.{filter-append}
-use Rattle.std.proofs.lemmas.Cmp.{upto, tied_itself, alike_right}
+use Rattle.std.proofs.lemmas.List.Sums.{list_all-from_AllPass}
+use Rattle.std.proofs.lemmas.Cmp.{tied_itself, alike_right}
 use Rattle.std.proofs.lemmas.Grind.{reverse_onto}
 use Rattle.std.proofs.lemmas.List.Sorted.{ranks_by, sorted_far}
-use Rattle.xdb_meta.specs.Table.{Table}
-use Rattle.xdb_edit.specs.Versions.{put_in, put_all_in, is_sorted}
-use Rattle.xdb_levels.proofs.MeetingLaws.{all_from_each}
-
--- ---- orderings
-
-le_not_gt : (r : Ordering) → is_le r ≡ true → is_gt r ≡ false
-le_not_gt Less h = refl
-le_not_gt Equal h = refl
-le_not_gt Greater h = absurd (false≢true h)
-
-not_gt_le : (r : Ordering) → is_gt r ≡ false → is_le r ≡ true
-not_gt_le Less h = refl
-not_gt_le Equal h = refl
-not_gt_le Greater h = absurd (false≢true (sym h))
-
-lt_le : (r : Ordering) → is_lt r ≡ true → is_le r ≡ true
-lt_le Less h = refl
-lt_le Equal h = absurd (false≢true h)
-lt_le Greater h = absurd (false≢true h)
-
-lt_not_eq : (r : Ordering) → is_lt r ≡ true → is_eq r ≡ false
-lt_not_eq Less h = refl
-lt_not_eq Equal h = absurd (false≢true h)
-lt_not_eq Greater h = absurd (false≢true h)
-
-not_lt_turned : (r : Ordering) → is_lt r ≡ false → is_le (ordering_reverse r) ≡ true
-not_lt_turned Less h = absurd (false≢true (sym h))
-not_lt_turned Equal h = refl
-not_lt_turned Greater h = refl
-
-eq_is : (r : Ordering) → is_eq r ≡ true → r ≡ Equal
-eq_is Less h = absurd (false≢true h)
-eq_is Equal h = refl
-eq_is Greater h = absurd (false≢true h)
+use Rattle.xdb_lists.specs.Sorted.{put_in, put_all_in, is_sorted}
+use Rattle.xdb_lists.proofs.SortedLaws.{le_turned, sorted_put_all_in}
 
 both_le : (r : Ordering) → is_le r ≡ true → is_le (ordering_reverse r) ≡ true → r ≡ Equal
 both_le Less h k = absurd (false≢true k)
@@ -70,30 +38,24 @@ first_kept p q (x ∷ xs) y ys all h =
       | inr no' ↦ first_kept p q xs y ys parts.1 (sym (cond-false (p x) (x ∷ filter p xs) (filter p xs) no') ∙ h)
     ]
 
--- ---- a sorted list is told by what ties with each table, in order
+-- ---- a sorted list is told by what ties with each element, in order
 
-abbrev tied : (Table → Table → Ordering) → Table → Table → Bool
+abbrev tied : {X : Type 0} → (X → X → Ordering) → X → X → Bool
 tied cmp x y = is_eq (cmp x y)
 
-module _ {cmp : Table → Table → Ordering} (total : IsTotalOrder cmp) where
-  ties_tied : (x : Table) → ties (λ a b. is_lt (cmp a b)) x ≡ tied cmp x
+module _ {X : Type 0} {cmp : X → X → Ordering} (total : IsTotalOrder cmp) where
+  ties_tied : (x : X) → ties (λ a b. is_lt (cmp a b)) x ≡ tied cmp x
   ties_tied x = λ i y. (ap (λ r. not (is_lt (cmp x y)) && not (is_lt r)) (total.antisymm y x) ∙ ties_eq (cmp x y)) i
 
-  le_chain : (a b c : Table) → is_le (cmp a b) ≡ true → is_le (cmp b c) ≡ true → is_le (cmp a c) ≡ true
-  le_chain a b c p q = not_gt_le _ (upto total a b c (le_not_gt _ p) (le_not_gt _ q))
-
-  le_turned : (x t : Table) → is_lt (cmp x t) ≡ false → is_le (cmp t x) ≡ true
-  le_turned x t h = ap is_le (total.antisymm t x) ∙ not_lt_turned (cmp x t) h
-
-  -- the first table is upto each that ties with one of the list
-  first_upto : (x z : Table) (zs : List Table) (w : Table) (ws : List Table) → is_sorted cmp (z ∷ zs) ≡ true → filter (tied cmp x) (z ∷ zs) ≡ w ∷ ws → is_le (cmp z x) ≡ true
+  -- the first element is upto each that ties with one of the list
+  first_upto : (x z : X) (zs : List X) (w : X) (ws : List X) → is_sorted cmp (z ∷ zs) ≡ true → filter (tied cmp x) (z ∷ zs) ≡ w ∷ ws → is_le (cmp z x) ≡ true
   first_upto x z zs w ws sorted h =
       let parts = and_parts (list_all (λ u. is_le (cmp z u)) zs) (is_sorted cmp zs) sorted in
       let itself : is_le (cmp z z) ≡ true = ap is_le (tied_itself total z) in
       let kept = first_kept (tied cmp x) (λ u. is_le (cmp z u)) (z ∷ zs) w ws (and_from _ _ itself parts.0) h in
-      ap is_le (alike_right total x w z (eq_is (cmp x w) kept.0)) ∙ kept.1
+      ap is_le (alike_right total x w z ((Equal-is (cmp x w)).0 kept.0)) ∙ kept.1
 
-  pub same_sorted : (ys zs : List Table) → is_sorted cmp ys ≡ true → is_sorted cmp zs ≡ true → ((x : Table) → filter (tied cmp x) ys ≡ filter (tied cmp x) zs) → ys ≡ zs
+  pub same_sorted : (ys zs : List X) → is_sorted cmp ys ≡ true → is_sorted cmp zs ≡ true → ((x : X) → filter (tied cmp x) ys ≡ filter (tied cmp x) zs) → ys ≡ zs
   same_sorted [] [] sorted_y sorted_z h = refl
   same_sorted [] (z ∷ zs) sorted_y sorted_z h =
       let e : [] ≡ z ∷ filter (tied cmp z) zs = h z ∙ cond-true (tied cmp z z) (z ∷ filter (tied cmp z) zs) (filter (tied cmp z) zs) (ap is_eq (tied_itself total z)) in
@@ -110,10 +72,10 @@ module _ {cmp : Table → Table → Ordering} (total : IsTotalOrder cmp) where
       let first_z : filter (tied cmp y) (z ∷ zs) ≡ z ∷ filter (tied cmp y) zs = cond-true (tied cmp y z) (z ∷ filter (tied cmp y) zs) (filter (tied cmp y) zs) (ap is_eq tie) in
       let heads : y ∷ filter (tied cmp y) ys ≡ z ∷ filter (tied cmp y) zs = sym here_y ∙ h y ∙ first_z in
       let same : y ≡ z = cc in
-      let behind : (x : Table) → filter (tied cmp x) ys ≡ filter (tied cmp x) zs = λ x. same_behind x y z ys zs same (h x) in
+      let behind : (x : X) → filter (tied cmp x) ys ≡ filter (tied cmp x) zs = λ x. same_behind x y z ys zs same (h x) in
       ap₂ ◌∷◌ same (same_sorted ys zs (and_parts (list_all (λ u. is_le (cmp y u)) ys) (is_sorted cmp ys) sorted_y).1 (and_parts (list_all (λ u. is_le (cmp z u)) zs) (is_sorted cmp zs) sorted_z).1 behind)
     where
-      same_behind : (x y z : Table) (ys zs : List Table) → y ≡ z → filter (tied cmp x) (y ∷ ys) ≡ filter (tied cmp x) (z ∷ zs) → filter (tied cmp x) ys ≡ filter (tied cmp x) zs
+      same_behind : (x y z : X) (ys zs : List X) → y ≡ z → filter (tied cmp x) (y ∷ ys) ≡ filter (tied cmp x) (z ∷ zs) → filter (tied cmp x) ys ≡ filter (tied cmp x) zs
       same_behind x y z ys zs same h = elim (cases_Bool (tied cmp x y)) [
         | inl yes' ↦
             let e : y ∷ filter (tied cmp x) ys ≡ z ∷ filter (tied cmp x) zs = sym (cond-true (tied cmp x y) (y ∷ filter (tied cmp x) ys) (filter (tied cmp x) ys) yes') ∙ h ∙ cond-true (tied cmp x z) (z ∷ filter (tied cmp x) zs) (filter (tied cmp x) zs) (sym (ap (tied cmp x) same) ∙ yes') in
@@ -124,44 +86,14 @@ module _ {cmp : Table → Table → Ordering} (total : IsTotalOrder cmp) where
 
   -- ---- putting in
 
-  all_put_in : (p : Table → Bool) (t : Table) (xs : List Table) → p t ≡ true → list_all p xs ≡ true → list_all p (put_in cmp t xs) ≡ true
-  all_put_in p t [] one all = and_from _ _ one refl
-  all_put_in p t (x ∷ xs) one all =
-      let parts = and_parts (p x) (list_all p xs) all in
-      elim (cases_Bool (is_lt (cmp x t))) [
-        | inl less ↦ ap (list_all p) (cond-true (is_lt (cmp x t)) (x ∷ put_in cmp t xs) (t ∷ x ∷ xs) less) ∙ and_from _ _ parts.0 (all_put_in p t xs one parts.1)
-        | inr more ↦ ap (list_all p) (cond-false (is_lt (cmp x t)) (x ∷ put_in cmp t xs) (t ∷ x ∷ xs) more) ∙ and_from _ _ one all
-      ]
-
-  all_behind : (t x : Table) (xs : List Table) → is_le (cmp t x) ≡ true → list_all (λ u. is_le (cmp x u)) xs ≡ true → list_all (λ u. is_le (cmp t u)) xs ≡ true
-  all_behind t x [] h all = refl
-  all_behind t x (u ∷ us) h all =
-      let p = and_parts (is_le (cmp x u)) (list_all (λ v. is_le (cmp x v)) us) all in
-      and_from _ _ (le_chain t x u h p.0) (all_behind t x us h p.1)
-
-  sorted_put_in : (t : Table) (xs : List Table) → is_sorted cmp xs ≡ true → is_sorted cmp (put_in cmp t xs) ≡ true
-  sorted_put_in t [] sorted = refl
-  sorted_put_in t (x ∷ xs) sorted =
-      let parts = and_parts (list_all (λ u. is_le (cmp x u)) xs) (is_sorted cmp xs) sorted in
-      elim (cases_Bool (is_lt (cmp x t))) [
-        | inl less ↦ ap (is_sorted cmp) (cond-true (is_lt (cmp x t)) (x ∷ put_in cmp t xs) (t ∷ x ∷ xs) less) ∙ and_from _ _ (all_put_in (λ u. is_le (cmp x u)) t xs (lt_le _ less) parts.0) (sorted_put_in t xs parts.1)
-        | inr more ↦
-            let le = le_turned x t more in
-            ap (is_sorted cmp) (cond-false (is_lt (cmp x t)) (x ∷ put_in cmp t xs) (t ∷ x ∷ xs) more) ∙ and_from _ _ (and_from _ _ le (all_behind t x xs le parts.0)) sorted
-      ]
-
-  pub sorted_put_all_in : (xs ts : List Table) → is_sorted cmp ts ≡ true → is_sorted cmp (put_all_in cmp xs ts) ≡ true
-  sorted_put_all_in [] ts sorted = sorted
-  sorted_put_all_in (x ∷ xs) ts sorted = sorted_put_all_in xs (put_in cmp x ts) (sorted_put_in x ts sorted)
-
   -- of what stands before another, not both tie with a third
-  not_both : (x u t : Table) → is_lt (cmp u t) ≡ true → tied cmp x u ≡ true → tied cmp x t ≡ true → ⊥
+  not_both : (x u t : X) → is_lt (cmp u t) ≡ true → tied cmp x u ≡ true → tied cmp x t ≡ true → ⊥
   not_both x u t less a b =
-      let e : cmp x t ≡ cmp u t = total.congr x u t (eq_is (cmp x u) a) in
-      false≢true (sym (lt_not_eq (cmp u t) less) ∙ sym (ap is_eq e) ∙ b)
+      let e : cmp x t ≡ cmp u t = total.congr x u t ((Equal-is (cmp x u)).0 a) in
+      false≢true (ap is_lt (sym ((Equal-is (cmp x t)).0 b) ∙ e) ∙ less)
 
-  -- a table that is put in stands before what ties with it
-  tied_put_in : (x t : Table) (ts : List Table) → filter (tied cmp x) (put_in cmp t ts) ≡ filter (tied cmp x) (t ∷ ts)
+  -- an element that is put in stands before what ties with it
+  tied_put_in : (x t : X) (ts : List X) → filter (tied cmp x) (put_in cmp t ts) ≡ filter (tied cmp x) (t ∷ ts)
   tied_put_in x t [] = refl
   tied_put_in x t (u ∷ us) =
       let p = tied cmp x in
@@ -181,7 +113,7 @@ module _ {cmp : Table → Table → Ordering} (total : IsTotalOrder cmp) where
                 cond-false (p u) (u ∷ filter p (t ∷ us)) (filter p (t ∷ us)) no' ∙ ap (λ zs. cond (p t) (t ∷ zs) zs) (sym (cond-false (p u) (u ∷ filter p us) (filter p us) no'))
           ]
 
-  tied_put_all_in : (x : Table) (xs ts : List Table) → filter (tied cmp x) (put_all_in cmp xs ts) ≡ filter (tied cmp x) (reverse xs ++ ts)
+  tied_put_all_in : (x : X) (xs ts : List X) → filter (tied cmp x) (put_all_in cmp xs ts) ≡ filter (tied cmp x) (reverse xs ++ ts)
   tied_put_all_in x [] ts = refl
   tied_put_all_in x (y ∷ xs) ts =
       let p = tied cmp x in
@@ -193,17 +125,17 @@ module _ {cmp : Table → Table → Ordering} (total : IsTotalOrder cmp) where
 
   -- ---- a stable sort
 
-  sorted_from_far : (xs : List Table) → ((i j : ℕ) (d : Table) → i ≤ j → j < length xs → is_lt (cmp (get_or xs j d) (get_or xs i d)) ≡ false) → is_sorted cmp xs ≡ true
+  sorted_from_far : (xs : List X) → ((i j : ℕ) (d : X) → i ≤ j → j < length xs → is_lt (cmp (get_or xs j d) (get_or xs i d)) ≡ false) → is_sorted cmp xs ≡ true
   sorted_from_far [] far = refl
   sorted_from_far (x ∷ xs) far = and_from _ _
-      (all_from_each (λ u. is_le (cmp x u)) xs x (λ i l. le_turned (get_or xs i x) x (far 0 (suc i) x (omega arith) (omega arith))))
+      (list_all-from_AllPass (λ u. is_le (cmp x u)) xs (λ i d l. le_turned total (get_or xs i d) x (far 0 (suc i) d (omega arith) (omega arith))))
       (sorted_from_far xs (λ i j d le l. far (suc i) (suc j) d (omega arith) (omega arith)))
 
-  pub sorted_by_sort : (xs : List Table) → IsSortedBy (λ a b. is_lt (cmp a b)) xs → is_sorted cmp xs ≡ true
-  sorted_by_sort xs up = sorted_from_far xs (λ i j d le l. sorted_far (λ a b. is_lt (cmp a b)) (ranks_by total (λ (t : Table). t)) xs up i j d le l)
+  pub sorted_by_sort : (xs : List X) → IsSortedBy (λ a b. is_lt (cmp a b)) xs → is_sorted cmp xs ≡ true
+  sorted_by_sort xs up = sorted_from_far xs (λ i j d le l. sorted_far (λ a b. is_lt (cmp a b)) (ranks_by total (λ (t : X). t)) xs up i j d le l)
 
   -- the last first, before what stands, sorted
-  pub put_all_in-sorted : (xs ts made : List Table) → is_sorted cmp ts ≡ true → IsSortedBy (λ a b. is_lt (cmp a b)) made → IsStableBy (λ a b. is_lt (cmp a b)) (reverse xs ++ ts) made → made ≡ put_all_in cmp xs ts
+  pub put_all_in-sorted : (xs ts made : List X) → is_sorted cmp ts ≡ true → IsSortedBy (λ a b. is_lt (cmp a b)) made → IsStableBy (λ a b. is_lt (cmp a b)) (reverse xs ++ ts) made → made ≡ put_all_in cmp xs ts
   put_all_in-sorted xs ts made sorted up stable =
-      same_sorted made (put_all_in cmp xs ts) (sorted_by_sort made up) (sorted_put_all_in xs ts sorted)
+      same_sorted made (put_all_in cmp xs ts) (sorted_by_sort made up) (sorted_put_all_in total xs ts sorted)
       (λ x. subst (λ p. filter p made ≡ filter p (reverse xs ++ ts)) (ties_tied x) (stable x) ∙ sym (tied_put_all_in x xs ts))
