@@ -1,30 +1,16 @@
 -- Spans that are apart from the ones just before them are apart from all before them.
-use Rattle.std.proofs.Common.{◌≡◌, ℕ, zero, suc, ◌<◌, Bool, true, false, ◌&&◌, ◌||◌, List, [], ◌∷◌, length, get_or, Option, Some, None, IsTrue, refl, sym, ap, ◌∙◌, arith, inl, inr, ◌⊎◌}
-use Rattle.std.proofs.lemmas.Bool.{and_parts, false≢true}
-use Rattle.std.specs.declared.cmp.Ordering.{Ordering}
-use Rattle.std.specs.declared.cmp.Ordering.TheVariants.{Less, Equal, Greater}
+use Rattle.std.proofs.Common.{◌≡◌, ℕ, zero, suc, ◌<◌, Bool, true, ◌&&◌, ◌||◌, List, [], ◌∷◌, length, get_or, Option, Some, None, IsTrue, sym, ap, ◌∙◌, arith, inl, inr}
+use Rattle.std.proofs.lemmas.Bool.{and_parts, or_cases, or_right}
 use Rattle.std.specs.Ordering.{is_eq}
 use Rattle.std.specs.List.{AllPairs}
+use Rattle.std.specs.Cmp.{Equal-is}
 use Rattle.xdb_key.proofs.OrderLaws.{key_exact, upto_trans, upto_from_below}
 use Rattle.xdb_key.specs.Order.{key_cmp, is_below, is_upto}
 use Rattle.xdb_block.specs.declared.kind.BlockKind.TheVariants.{Spans}
 use Rattle.xdb_block.specs.Rows.{Row, user_part, suits, is_apart, Follow}
 
-eq-tells : (r : Ordering) → is_eq r ≡ true → r ≡ Equal
-eq-tells Less h = absurd (false≢true h)
-eq-tells Equal h = refl
-eq-tells Greater h = absurd (false≢true h)
-
 same-tells : (a b : List ℕ) → is_eq (key_cmp a b) ≡ true → a ≡ b
-same-tells a b h = key_exact a b (eq-tells _ h)
-
-or_cases : (a b : Bool) → (a || b) ≡ true → (a ≡ true) ⊎ (b ≡ true)
-or_cases true b h = inl refl
-or_cases false b h = inr h
-
-or_right : (a b : Bool) → b ≡ true → (a || b) ≡ true
-or_right true b h = refl
-or_right false b h = h
+same-tells a b h = key_exact a b ((Equal-is (key_cmp a b)).0 h)
 
 abbrev same : List ℕ → List ℕ → List ℕ → List ℕ → Bool
 same s e t f = is_eq (key_cmp s t) && is_eq (key_cmp e f)
