@@ -1,5 +1,5 @@
 -- Tables by their names: a rule on tables asks for names alone.
-use Rattle.std.proofs.Common.{◌≡◌, ℕ, Bool, true, false, cond, eqb, not, ◌&&◌, ◌||◌, List, [], ◌∷◌, length, map, Option, Some, None, Result, Ok, Err, refl, sym, ap, ◌∙◌, is_some, is_none}
+use Rattle.std.proofs.Common.{◌≡◌, ℕ, Bool, true, false, cond, eqb, not, ◌&&◌, ◌||◌, List, [], ◌∷◌, length, map, Option, Some, Result, Ok, Err, refl, sym, ap, ◌∙◌, is_some, is_none}
 use Rattle.std.specs.Borrow.{Bor}
 use Rattle.std.specs.List.{flat_map, list_all}
 use Rattle.std.specs.Ordering.{eq_by_cmp}
@@ -59,11 +59,10 @@ defined-same a b [] h = refl
 defined-same a b (n ∷ names) h = λ i. h.same n i && defined-same a b names h i
 
 pub none_not : {A : Type 0} (o : Option A) → is_none o ≡ not (is_some o)
-none_not None = refl
-none_not (Some x) = refl
+none_not o = refl
 
 stand-same : (a b : List TableOps) (c : Cmd) → SameNames a b → tables_stand a c ≡ tables_stand b c
-stand-same a b (cmd.Table table) h = none_not (found_table table.name a) ∙ ap not (h.same table.name) ∙ sym (none_not (found_table table.name b))
+stand-same a b (cmd.Table table) h = ap not (h.same table.name)
 stand-same a b (cmd.Load load names span) h = defined-same a b names h
 stand-same a b _ h = refl
 
@@ -153,7 +152,7 @@ table-is-read word words parts name ops h =
 pub table-ruled : (names : List (List ℕ)) (word : List ℕ) (words : List (List ℕ)) (parts : List (List (List ℕ))) (name : List ℕ) (ops : List Op) (t u : Bool) → TableRead word words parts name ops → is_some (found_table name (as_tables names)) ≡ t → is_none (disorder ops) ≡ u → ruled names (named_table_read word words) ≡ cond (not (not t)) (Err why.Table) (cond (not u) (Err why.Order) (Ok (cmd.Table (table_ops name ops))))
 table-ruled names word words parts name ops t u h found order =
     let c = cmd.Table (table_ops name ops) in
-    let stand : tables_stand (as_tables names) c ≡ not t = none_not (found_table name (as_tables names)) ∙ ap not found in
+    let stand : tables_stand (as_tables names) c ≡ not t = ap not found in
     ap (ruled names) (table-is-read word words parts name ops h)
     ∙ ap (λ x. cond (not x) (Err why.Range) (cond (not (tables_stand (as_tables names) c)) (Err why.Table) (cond (not (points_rise c)) (Err why.Order) (Ok c)))) h.rise
     ∙ ap (λ x. cond (not x) (Err why.Table) (cond (not (points_rise c)) (Err why.Order) (Ok c))) stand
@@ -174,7 +173,7 @@ table_of word words parts seen name drafts ops shape same named read risen =
     }
 
 pub in_order : (seen ops : List Op) (o : Option ℕ) (b : Bool) → o ≡ disorder seen → seen ≡ ops → b ≡ is_some o → is_none (disorder ops) ≡ not b
-in_order seen ops o b is same some = ap (λ xs. is_none (disorder xs)) (sym same) ∙ none_not (disorder seen) ∙ ap (λ x. not (is_some x)) (sym is) ∙ ap not (sym some)
+in_order seen ops o b is same some = ap (λ xs. is_none (disorder xs)) (sym same) ∙ ap (λ x. not (is_some x)) (sym is) ∙ ap not (sym some)
 
 pub spoken : (names : List (List ℕ)) (form : ScriptForm) (number : ℕ) (who : List ℕ) (words : List (List ℕ)) (by : Option By) → who_read form who ≡ Ok by → spoken_read form (as_tables names) number who words ≡ (ruled names (cmd_read form by words) >>= λ x. Ok (line_of number by x))
 spoken names form number who words by e =
