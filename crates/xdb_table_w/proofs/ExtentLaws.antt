@@ -1,5 +1,5 @@
 -- The extent of rows in order comes from the first and the last of them.
-use Rattle.std.proofs.Common.{◌≡◌, ℕ, ◌+◌, ◌≤◌, Bool, true, false, not, ◌&&◌, ◌||◌, cond, List, [], ◌∷◌, ◌++◌, length, map, Option, Some, None, IsTrue, refl, sym, ap, ◌∙◌, subst, arith, inl, inr}
+use Rattle.std.proofs.Common.{◌≡◌, ℕ, ◌+◌, ◌≤◌, Bool, true, false, ◌&&◌, ◌||◌, cond, List, [], ◌∷◌, ◌++◌, length, map, Option, Some, None, IsTrue, refl, sym, subst, arith, inl, inr}
 use Rattle.std.specs.List.{AllByRecursion}
 use Rattle.std.specs.Option.{option_map}
 use Rattle.std.specs.declared.cmp.Ordering.{Ordering}
@@ -7,7 +7,7 @@ use Rattle.std.specs.declared.cmp.Ordering.TheVariants.{Less, Equal, Greater}
 use Rattle.std.specs.Ordering.{nat_cmp, is_lt, is_le, is_eq, ordering_then}
 use Rattle.std.proofs.lemmas.Bool.{and_parts, false≢true, and_from}
 use Rattle.std.specs.Cmp.{Equal-is}
-use Rattle.xdb_key.proofs.OrderLaws.{key_exact, upto_trans, upto_below, below_upto, upto_from_below, upto-itself, upto-not_below, key-below-successor}
+use Rattle.xdb_key.proofs.OrderLaws.{key_exact, upto_trans, upto_below, below_upto, upto_from_below, upto-itself, key-below-successor, lesser_upto_first, lesser_upto_second, first_upto_greater, second_upto_greater}
 use Rattle.xdb_key.specs.Bounds.{bounds, holds, covers, successor}
 use Rattle.xdb_key.specs.Entries.{Reach, reach}
 use Rattle.xdb_key.specs.Order.{key_cmp, is_below, is_upto}
@@ -110,24 +110,6 @@ spans_inside lo hi q (r ∷ rs) low high h =
     let upto = upto_trans (end q) (end r) top (end_step q r h.0) (end_last r rs h.1) in
     (and_from (is_upto lo (user q)) (is_upto (end q) hi) low (upto_trans (end q) top hi upto high), spans_inside lo hi r rs (upto_trans lo (user q) (user r) low (span_step q r h.0)) high h.1)
 
--- ---- the lesser and the greater of two
-
-lesser_left : (a b : List ℕ) (t : Bool) → is_below a b ≡ t → is_upto (cond t a b) a ≡ true
-lesser_left a b true e = upto-itself a
-lesser_left a b false e = upto-not_below b a ∙ ap not e
-
-lesser_right : (a b : List ℕ) (t : Bool) → is_below a b ≡ t → is_upto (cond t a b) b ≡ true
-lesser_right a b true e = upto_from_below a b e
-lesser_right a b false e = upto-itself b
-
-greater_left : (a b : List ℕ) (t : Bool) → is_below a b ≡ t → is_upto a (cond t b a) ≡ true
-greater_left a b true e = upto_from_below a b e
-greater_left a b false e = upto-itself a
-
-greater_right : (a b : List ℕ) (t : Bool) → is_below a b ≡ t → is_upto b (cond t b a) ≡ true
-greater_right a b true e = upto-itself b
-greater_right a b false e = upto-not_below b a ∙ ap not e
-
 one_of : (xs : List (List ℕ)) (t : Bool) (a b : List ℕ) → Has xs a → Has xs b → Has xs (cond t a b)
 one_of xs true a b h g = h
 one_of xs false a b h g = g
@@ -177,8 +159,8 @@ points_and_spans p ps q rs s h g n =
     let points = p ∷ ps in
     let spans = q ∷ rs in
     let made : IsExtent (content points spans) (reach (bounds lo hi) s.lo s.hi) = record {
-      hulls = points_inside lo hi p ps (lesser_left (user p) (user q) (is_below (user p) (user q)) refl) (greater_left top last (is_below top last) refl) h.1;
-      spans = spans_inside lo hi q rs (lesser_right (user p) (user q) (is_below (user p) (user q)) refl) (greater_right top last (is_below top last) refl) g.1;
+      hulls = points_inside lo hi p ps (lesser_upto_second (user q) (user p)) (first_upto_greater top last) h.1;
+      spans = spans_inside lo hi q rs (lesser_upto_first (user q) (user p)) (second_upto_greater top last) g.1;
       lo = one_of (map user points ++ map user spans) (is_below (user p) (user q)) (user p) (user q) (inl refl) (Has-append_right (map user points) (map user spans) (user q) (inl refl));
       hi = one_of (map (λ r. successor (user r)) points ++ map end spans) (is_below top last) last top (Has-append_right (map (λ r. successor (user r)) points) (map end spans) last (has_end q rs)) (Has-append_left (map (λ r. successor (user r)) points) (map end spans) top (has_user p ps));
       between = n.0;
