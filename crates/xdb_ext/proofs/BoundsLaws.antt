@@ -4,6 +4,7 @@ use Rattle.std.proofs.lemmas.Bool.{and_parts, false≢true, lt-ltb, and_from, fa
 use Rattle.std.proofs.lemmas.List.{length-map}
 use Rattle.std.specs.List.{All, AllByRecursion}
 use Rattle.std.proofs.lemmas.Option.{same_Some}
+use Rattle.std.proofs.lemmas.List.Elements.{All-from_recursion}
 use Rattle.xdb_key.proofs.OrderLaws.{upto-not_below, below-itself, upto-itself, upto_from_below, below_upto, upto_trans, upto_antisymm, below-successor}
 use Rattle.xdb_key.specs.Bounds.{Bounds, bounds, holds, covers, successor, key_hull}
 use Rattle.xdb_key.specs.Entries.{Point, point, Tombstone, tombstone, Reach}
@@ -28,9 +29,7 @@ use Rattle.xdb_ext.specs.Operations.{point_of, span_of, points_of, spans_of, row
 use Rattle.xdb_ext.specs.TableBounds.{IsExtentOf}
 
 at_member : {A : Type 0} (P : A → Type 0) (xs : List A) (x : A) → AllByRecursion P xs → Has xs x → P x
-at_member P [] x all has = absurd has
-at_member P (y ∷ ys) x all (inl e) = subst P e all.0
-at_member P (y ∷ ys) x all (inr has) = at_member P ys x all.1 has
+at_member P xs x all has = All-at_Has P xs x (All-from_recursion P xs all) has
 
 -- ---- range deletes and their fragments
 

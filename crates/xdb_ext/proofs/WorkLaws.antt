@@ -17,6 +17,7 @@ use Rattle.xdb_device.specs.declared.fault.DevNo.{DevNo}
 use Rattle.xdb_device.specs.declared.fault.DevNo.TheVariants as dev
 use Rattle.xdb_device.specs.declared.fault.WorkCause.{WorkCause}
 use Rattle.xdb_device.specs.declared.fault.WorkCause.TheVariants as causes
+use Rattle.xdb_rangedel.proofs.FragmentLaws.{All-at_Has}
 use Rattle.xdb_rangedel.proofs.MemberLaws.{Has-from_Contains, Contains-from_Has, Has-append_left, Has-append_right, Has-append_cases, Has-get_or}
 use Rattle.xdb_rangedel.specs.Members.{Has}
 use Rattle.xdb_ext.specs.Work.{AreNew, Tried, IsHeld, AreHeld, under, but_last}
@@ -34,18 +35,6 @@ more nums i num at = take_more nums i num at.inside ∙ ap (λ n. take i nums ++
 has_later : (nums : List ℕ) (i num : ℕ) → At nums i num → Has nums num
 has_later nums i num at = subst (λ n. Has nums n) (sym at.is) (Has-get_or nums i num at.inside)
 
-in_front : (nums : List ℕ) (i n : ℕ) → Has (take i nums) n → Has nums n
-in_front [] zero n has = absurd has
-in_front [] (suc i) n has = absurd has
-in_front (m ∷ nums) zero n has = absurd has
-in_front (m ∷ nums) (suc i) n (inl e) = inl e
-in_front (m ∷ nums) (suc i) n (inr has) = inr (in_front nums i n has)
-
-differs : (n : ℕ) (ns : List ℕ) (m : ℕ) → AllByRecursion (λ k. nat_eq n k ≡ false) ns → Has ns m → nat_eq n m ≡ false
-differs n [] m all has = absurd has
-differs n (k ∷ ns) m all (inl e) = subst (λ x. nat_eq n x ≡ false) e all.0
-differs n (k ∷ ns) m all (inr has) = differs n ns m all.1 has
-
 -- the number at a place isn't among those before
 pub apart : (nums : List ℕ) (i num : ℕ) → IsDistinct nat_eq nums → At nums i num → Has (take i nums) num → ⊥
 unfolding IsDistinct
@@ -53,7 +42,7 @@ apart [] i num distinct at has = absurd (omega (arith, at.inside))
 apart (m ∷ nums) zero num distinct at has = absurd has
 apart (m ∷ nums) (suc i) num distinct at (inl e) =
     let later : Has nums m = subst (λ n. Has nums n) (sym e) (has_later nums i num (record { inside = omega (arith, at.inside); is = at.is })) in
-    false≢true (sym (differs m nums m distinct.0 later) ∙ eq-eqb m m refl)
+    false≢true (sym (All-at_Has (λ k. nat_eq m k ≡ false) nums m (All-from_recursion (λ k. nat_eq m k ≡ false) nums distinct.0) later) ∙ eq-eqb m m refl)
 apart (m ∷ nums) (suc i) num distinct at (inr has) = apart nums i num distinct.1 (record { inside = omega (arith, at.inside); is = at.is }) has
 
 -- ---- lists that are told
