@@ -5,6 +5,8 @@ use Rattle.std.specs.List.{flat_map, list_all}
 use Rattle.std.specs.Ordering.{eq_by_cmp}
 use Rattle.std.proofs.lemmas.Bool.{and_from, true≢false}
 use Rattle.std.proofs.lemmas.List.Folds.{list_all-map}
+use Rattle.std.proofs.lemmas.Cmp.{eq_by_cmp_equiv}
+use Rattle.xdb_key.proofs.OrderLaws.{key_total}
 use Rattle.xdb_key.specs.Ops.{disorder, is_table}
 use Rattle.xdb_key.specs.Order.{key_cmp}
 use Rattle.xdb_key.specs.Reading.{◌>>=◌}
@@ -15,7 +17,6 @@ use Rattle.xdb_key.specs.declared.op.Op.{Op}
 use Rattle.xdb_plain.specs.declared.act.By.{By}
 use Rattle.xdb_plain.specs.declared.script.Cmd.{Cmd}
 use Rattle.xdb_plain.specs.declared.script.Cmd.TheVariants as cmd
-use Rattle.xdb_script.proofs.Words.{same-tells, same-itself}
 use Rattle.xdb_script.proofs.Parts.{ops-is}
 use Rattle.xdb_script.specs.Answers.{IsDefect, as_tables, has_name, ranged, rises, ruled, texts}
 use Rattle.xdb_script.specs.Drafts.{drafted}
@@ -31,13 +32,7 @@ use Rattle.xdb_script.specs.declared.error.Why.TheVariants as why
 
 -- two words are one, whichever stands first
 pub same-turned : (a b : List ℕ) → eq_by_cmp key_cmp a b ≡ eq_by_cmp key_cmp b a
-same-turned a b = by (eq_by_cmp key_cmp a b) (eq_by_cmp key_cmp b a) refl refl
-  where
-    by : (t u : Bool) → eq_by_cmp key_cmp a b ≡ t → eq_by_cmp key_cmp b a ≡ u → t ≡ u
-    by true true e f = refl
-    by false false e f = refl
-    by true false e f = sym (same-itself b) ∙ ap (eq_by_cmp key_cmp b) (sym (same-tells a b e)) ∙ f
-    by false true e f = sym e ∙ ap (eq_by_cmp key_cmp a) (same-tells b a f) ∙ same-itself a
+same-turned a b = (eq_by_cmp_equiv key_total).symm a b
 
 found-by : (n name : List ℕ) (tables : List TableOps) (more t u : Bool) → t ≡ u → is_some (found_table name tables) ≡ more → is_some (cond t (Some (table_ops n [])) (found_table name tables)) ≡ (u || more)
 found-by n name tables more true true e h = refl
