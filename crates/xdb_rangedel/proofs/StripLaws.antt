@@ -6,13 +6,14 @@ use Rattle.std.proofs.Math.Numerals.{add-one}
 use Rattle.std.proofs.lemmas.List.Elements.{All-push, All-cons, All-weaker, All-from_recursion}
 use Rattle.std.proofs.lemmas.List.Sorted.{Contains-permutation, IsPermutation-sym}
 use Rattle.std.proofs.lemmas.List.Kept.{AllPairs-cons, Contains-dedup, Contains-from_dedup}
-use Rattle.std.specs.List.{All, AllPairs, dedup}
+use Rattle.std.specs.List.{All, AllPairs, dedup, prefix_len}
 use Rattle.std.specs.List.Sorted.{IsPartitionPoint, IsPartitionedBy, IsPermutation, IsStrictlySortedBy}
 use Rattle.std.specs.Ordering.{is_lt, nat_cmp, ordering_then}
 use Rattle.std.specs.Cmp.Lexicographic.{pointwise, nat_list_eq_equiv, same_text}
 use Rattle.std.specs.Prelude.{nat_eq}
 use Rattle.std.specs.declared.cmp.Ordering.TheVariants.{Less, Equal}
 use Rattle.std.specs.Cmp.{nat_cmp_is}
+use Rattle.std.proofs.lemmas.List.Sums.{prefix_len_is, prefix_len-le-length}
 use Rattle.xdb_key.specs.Order.{key_cmp, is_below, is_upto}
 use Rattle.xdb_key.specs.Bounds.{holds}
 use Rattle.xdb_key.specs.Entries.{Tombstone}
@@ -54,19 +55,18 @@ rising-partitioned at bs rising = λ i j d le inside h. elim (cases_order i j) [
 
 -- the place of a bound
 
+place_of-is : (bs : List (List ℕ)) (at : List ℕ) → place_of bs at ≡ prefix_len (λ b. is_below b at) bs
+place_of-is [] at = refl
+place_of-is (b ∷ bs) at =
+    let one : suc (place_of bs at) ≡ 1 + prefix_len (λ x. is_below x at) bs = omega (arith, place_of-is bs at) in
+    ap (λ n. cond (is_below b at) n 0) one
+
 pub place_of-split : (at : List ℕ) (bs : List (List ℕ)) (n : ℕ) → n ≤ length bs → IsPartitionPoint (λ b. is_below b at ≡ true) (λ b. is_below b at ≡ false) bs n → n ≡ place_of bs at
-place_of-split at [] n inside split = omega arith
-place_of-split at (b ∷ bs) zero inside split = sym (ap (λ x. cond x (suc (place_of bs at)) 0) (split.1 0 b (omega arith) (omega arith)))
-place_of-split at (b ∷ bs) (suc n) inside split =
-    ap suc (place_of-split at bs n (omega arith) ((λ k d a l. split.0 (suc k) d (omega arith) (omega arith)), (λ k d a l. split.1 (suc k) d (omega arith) (omega arith))))
-    ∙ sym (ap (λ x. cond x (suc (place_of bs at)) 0) (split.0 0 b (omega arith) (omega arith)))
+place_of-split at bs n inside split =
+    sym (place_of-is bs at ∙ prefix_len_is (λ b. is_below b at) bs n [] inside (λ k a. split.0 k [] (omega arith) a) (λ l. split.1 n [] (omega arith) l))
 
 pub place_of-inside : (bs : List (List ℕ)) (at : List ℕ) → place_of bs at ≤ length bs
-place_of-inside [] at = omega arith
-place_of-inside (b ∷ bs) at = elim (cases_Bool (is_below b at)) [
-  | inl h ↦ let e : place_of (b ∷ bs) at ≡ suc (place_of bs at) = ap (λ x. cond x (suc (place_of bs at)) 0) h in omega (arith, place_of-inside bs at)
-  | inr h ↦ let e : place_of (b ∷ bs) at ≡ 0 = ap (λ x. cond x (suc (place_of bs at)) 0) h in omega arith
-]
+place_of-inside bs at = omega (arith, place_of-is bs at, prefix_len-le-length (λ b. is_below b at) bs)
 
 -- what stands before its place is below, and what doesn't is not
 place_of-tells : (bs : List (List ℕ)) (at : List ℕ) (j : ℕ) (d : List ℕ) → IsRising bs → j < length bs → ltb j (place_of bs at) ≡ is_below (get_or bs j d) at
