@@ -1,5 +1,5 @@
 -- The two laws: what is read is spelled so, and what is spelled so is read.
-use Rattle.std.proofs.Common.{◌≡◌, ℕ, zero, suc, ◌+◌, ◌-◌, ◌^◌, ◌≤◌, Bool, true, false, ◌||◌, cond, eqb, ltb, List, [], ◌∷◌, ◌++◌, length, take, drop, append_assoc, subst, Ok, Err, refl, sym, ap, ◌∙◌, arith}
+use Rattle.std.proofs.Common.{◌≡◌, ℕ, zero, suc, ◌+◌, ◌-◌, ◌^◌, ◌≤◌, false, ◌||◌, cond, eqb, ltb, List, [], ◌∷◌, ◌++◌, length, take, drop, append_assoc, subst, Ok, Err, refl, sym, ap, ◌∙◌, arith}
 use Rattle.std.specs.List.{flat_map, AllByRecursion}
 use Rattle.std.proofs.lemmas.Bool.{le-ltb, ltb-false, eqb-true, eqb-false, ne_eqb, or_parts, or_from}
 use Rattle.std.proofs.lemmas.List.{append-nil, nil_from_length, length-drop, drop-drop, take-append-drop}
@@ -13,10 +13,9 @@ use Rattle.xdb_key.specs.declared.op.Op.{Op}
 use Rattle.xdb_key.specs.declared.op.Op.TheVariants.{Set, Del, DelSpan}
 use Rattle.xdb_batch.specs.Reading.{op_at, ops_at, header_at, batch_at}
 use Rattle.xdb_batch.specs.Spelling.{op_bytes, batch_bytes, IsOp, IsBatch, IsKept}
-use Rattle.xdb_batch.specs.declared.error.BatchBad.{BatchBad}
 use Rattle.xdb_batch.specs.declared.error.BatchBad.TheVariants.{TooLong, Short, TooMany, BadNumbers, BadCount, Trailing}
 use Rattle.xdb_batch.proofs.Lengths.{length-batch_bytes}
-use Rattle.xdb_batch.proofs.Parts.{Takes, Takes-then, ok_is, op_takes, set_again, del_again, span_again, little_takes_4, little_takes_8}
+use Rattle.xdb_batch.proofs.Parts.{Takes, Takes-then, ok_is, op_takes, set_again, del_again, span_again, little_takes_4, little_takes_8, test_ok}
 
 -- ---- operations one after the other
 
@@ -110,10 +109,6 @@ header_parts bytes first count fits h =
 
 -- ---- a whole batch
 
-ended : {A : Type 0} (b : Bool) (d : BatchBad) (x y : A) → cond b (Ok x) (Err d) ≡ Ok y → (b ≡ true) × (x ≡ y)
-ended true d x y e = (refl, cc)
-ended false d x y e = absurd cc
-
 -- a batch was read from its spelling
 pub record ReadsBatch (bytes : List ℕ) (first : ℕ) (ops : List Op) : Type 0 where
   pub is : bytes ≡ batch_bytes first ops
@@ -141,10 +136,10 @@ batch_takes bytes x fits e =
     let end = length bytes in
     let a = bind_ok (header_at bytes) (λ header. ops_at header.1 end header.1 (drop 12 bytes) >>= λ ops. cond (eqb (length ops.1) 0) (Ok (header.0, ops.0)) (Err (Trailing (end - length ops.1)))) e in
     let b = bind_ok (ops_at a.0.1 end a.0.1 (drop 12 bytes)) (λ ops. cond (eqb (length ops.1) 0) (Ok (a.0.0, ops.0)) (Err (Trailing (end - length ops.1)))) a.2 in
-    let g = ended (eqb (length b.0.1) 0) (Trailing (end - length b.0.1)) (a.0.0, b.0.0) x b.2 in
+    let g = test_ok (eqb (length b.0.1) 0) (Trailing (end - length b.0.1)) (a.0.0, b.0.0) x b.2 in
     let header = header_takes bytes a.0 a.1 in
     let ops = ops_take a.0.1 end a.0.1 (drop 12 bytes) b.0 (AreBytes-drop 12 bytes fits) b.1 in
-    subst (λ (y : ℕ × List Op). ReadsBatch bytes y.0 y.1) g.1 (reads_batch bytes a.0.0 a.0.1 b.0.0 b.0.1 fits header ops (eqb-true (length b.0.1) 0 g.0))
+    subst (λ (y : ℕ × List Op). ReadsBatch bytes y.0 y.1) (ok_is (a.0.0, b.0.0) x g.1) (reads_batch bytes a.0.0 a.0.1 b.0.0 b.0.1 fits header ops (eqb-true (length b.0.1) 0 g.0))
 
 spelled_header : (first : ℕ) (ops : List Op) → IsBatch first ops → IsHeader (batch_bytes first ops) first (length ops)
 spelled_header first ops h =

@@ -1,7 +1,7 @@
 -- Reading operations one after the other, as a loop does.
 use Rattle.std.proofs.Common.{◌≡◌, ℕ, suc, ◌-◌, ◌+◌, ◌≤◌, ◌<◌, List, [], ◌∷◌, ◌++◌, length, get_or, take, drop, append_assoc, Result, Ok, Err, refl, sym, ap, ◌∙◌, arith}
 use Rattle.std.proofs.lemmas.List.{append-nil, nil_from_length, length-take, length-drop}
-use Rattle.std.proofs.Math.Seq.{take-length}
+use Rattle.std.proofs.lemmas.Slice.{first_rest}
 use Rattle.xdb_key.specs.Reading.{◌>>=◌}
 use Rattle.xdb_key.specs.declared.op.Op.{Op}
 use Rattle.xdb_batch.specs.Reading.{IsDefect, op_at, ops_at}
@@ -24,12 +24,6 @@ regrouped front op (Err bad) = refl
 abbrev pub behind : List ℕ → List ℕ
 behind rest = take (length rest - 1) (drop 1 rest)
 
-opened : (rest : List ℕ) → 1 ≤ length rest → rest ≡ get_or rest 0 0 ∷ behind rest
-opened [] some = absurd (omega arith)
-opened (byte ∷ bytes) some =
-    let one_less : length bytes ≡ suc (length bytes) - 1 = omega arith in
-    ap (λ bs. byte ∷ bs) (sym (take-length bytes) ∙ ap (λ n. take n bytes) one_less)
-
 pub length-behind : (rest : List ℕ) → 1 ≤ length rest → length (behind rest) + 1 ≡ length rest
 length-behind rest some = omega (arith, length-take (length rest - 1) (drop 1 rest), length-drop 1 rest)
 
@@ -41,7 +35,7 @@ goes_on stated end found front rest op after total less some read g =
     let next : with_front front (ops_at stated end (suc (stated - (found + 1))) (get_or rest 0 0 ∷ behind rest)) ≡ with_front (front ++ op ∷ []) (ops_at stated end (stated - (found + 1)) after) =
     rw read (regrouped front op (ops_at stated end (stated - (found + 1)) after)) in
     let here : with_front front (ops_at stated end (stated - found) rest) ≡ with_front front (ops_at stated end (suc (stated - (found + 1))) (get_or rest 0 0 ∷ behind rest)) =
-    λ i. with_front front (ops_at stated end (k i) (opened rest some i)) in
+    λ i. with_front front (ops_at stated end (k i) (first_rest rest 0 some i)) in
     record { makes = sym (here ∙ next) ∙ g.makes }
 
 passed_on : {X Y : Type 0} (bad : BatchBad) (r : Result X BatchBad) (total : Result Y BatchBad) → ((e : BatchBad) → r ≡ Err e → total ≡ Err e) → IsDefect bad r → IsDefect bad total
@@ -55,7 +49,7 @@ unfolding ops_at
 fails bad stated end found front rest total less some defect g =
     let k : stated - found ≡ suc (stated - (found + 1)) = omega arith in
     let here : with_front front (ops_at stated end (stated - found) rest) ≡ with_front front (ops_at stated end (suc (stated - (found + 1))) (get_or rest 0 0 ∷ behind rest)) =
-    λ i. with_front front (ops_at stated end (k i) (opened rest some i)) in
+    λ i. with_front front (ops_at stated end (k i) (first_rest rest 0 some i)) in
     let step = λ (e : BatchBad) (is : op_at end (get_or rest 0 0) (behind rest) ≡ Err e).
     let next : with_front front (ops_at stated end (suc (stated - (found + 1))) (get_or rest 0 0 ∷ behind rest)) ≡ Err e = rw is refl in
     sym g.makes ∙ here ∙ next in

@@ -125,9 +125,10 @@ pub record ReadsOp (bytes : List ℕ) (op : Op) (rest : List ℕ) : Type 0 where
 is_read : (bytes : List ℕ) (op : Op) (rest : List ℕ) (x : Op × List ℕ) → done (op, rest) ≡ done x → ReadsOp bytes op rest → ReadsOp bytes x.0 x.1
 is_read bytes op rest x e r = subst (λ (y : Op × List ℕ). ReadsOp bytes y.0 y.1) (ok_is (op, rest) x e) r
 
-span_ok : {A : Type 0} (b : Bool) (d : BatchBad) (x y : A) → cond b (Ok x) (Err d) ≡ Ok y → (b ≡ true) × (done x ≡ done y)
-span_ok true d x y e = (refl, e)
-span_ok false d x y e = absurd cc
+-- a test passed, so what stands behind it is the answer
+pub test_ok : {A : Type 0} (b : Bool) (d : BatchBad) (x y : A) → cond b (Ok x) (Err d) ≡ Ok y → (b ≡ true) × (done x ≡ done y)
+test_ok true d x y e = (refl, e)
+test_ok false d x y e = absurd cc
 
 body_takes : (at end : ℕ) (kind : Kind) (bytes : List ℕ) (x : Op × List ℕ) → AreBytes bytes → body_at at end kind bytes ≡ Ok x → ReadsOp (kind_code kind ∷ bytes) x.0 x.1
 unfolding body_at
@@ -149,7 +150,7 @@ body_takes at end kinds.SpanDel bytes x fits e =
     let h = bind_ok (string_at 1 MAX_BOUND at end l.0.1) (λ hi. cond (is_below l.0.0 hi.0) (Ok (DelSpan (bounds l.0.0 hi.0), hi.1)) (Err (BadKey at))) l.2 in
     let lo = string_takes 1 MAX_BOUND at end bytes l.0.0 l.0.1 fits l.1 in
     let hi = string_takes 1 MAX_BOUND at end l.0.1 h.0.0 h.0.1 lo.taken.bytes_left h.1 in
-    let ordered = span_ok (is_below l.0.0 h.0.0) (BadKey at) (DelSpan (bounds l.0.0 h.0.0), h.0.1) x h.2 in
+    let ordered = test_ok (is_below l.0.0 h.0.0) (BadKey at) (DelSpan (bounds l.0.0 h.0.0), h.0.1) x h.2 in
     is_read _ (DelSpan (bounds l.0.0 h.0.0)) h.0.1 x ordered.1 (record {
       taken = Takes-behind 15 _ _ _ (Takes-then bytes (string l.0.0) l.0.1 (string h.0.0) h.0.1 lo.taken hi.taken);
       within = ((lo.least_kept, lo.most_kept), (hi.least_kept, hi.most_kept), ordered.0);

@@ -3,6 +3,7 @@ use Rattle.std.proofs.Common.{◌≡◌, ℕ, suc, ◌+◌, ◌-◌, ◌*◌, �
 use Rattle.std.proofs.Math.Nat.{mul-le-mul_right, mul-le-mul_left}
 use Rattle.std.proofs.lemmas.Bool.{cases_Bool, eqb-true, eqb-false}
 use Rattle.std.proofs.lemmas.List.{length-append, length-drop, length-take}
+use Rattle.std.proofs.lemmas.List.Elements.{All-tail}
 use Rattle.xdb_key.specs.Varint.{varint}
 use Rattle.xdb_block.specs.declared.place.Place.{Place}
 use Rattle.xdb_block.specs.Kept.{rows_of, Lies, keys_size}
@@ -93,9 +94,6 @@ pub size-more : (places : List Place) (p : Place) → keys_size (places ++ p ∷
 size-more [] p = omega arith
 size-more (q ∷ places) p = omega (arith, size-more places p)
 
-tail_lies : (keys bytes : ℕ) (p : Place) (ps : List Place) → All (Lies keys bytes) (p ∷ ps) → All (Lies keys bytes) ps
-tail_lies keys bytes p ps h = λ k d less. h (suc k) d (omega arith)
-
 pub size-of_rows : (keys bytes : List ℕ) (places : List Place) → All (Lies (length keys) (length bytes)) places → keys_size places ≡ keys_len (rows_of keys bytes places)
 size-of_rows keys bytes [] lie = refl
 size-of_rows keys bytes (p ∷ places) lie =
@@ -103,5 +101,5 @@ size-of_rows keys bytes (p ∷ places) lie =
     let order = lies.key_order in
     let within = lies.in_keys in
     let one : p.key_end - p.key ≡ length (slice_range keys p.key p.key_end) = omega (arith, length-take (p.key_end - p.key) (drop p.key keys), length-drop p.key keys, order, within) in
-    let others = size-of_rows keys bytes places (tail_lies (length keys) (length bytes) p places lie) in
+    let others = size-of_rows keys bytes places (All-tail (Lies (length keys) (length bytes)) p places lie) in
     omega (arith, one, others)

@@ -3,7 +3,7 @@ use Rattle.std.proofs.Common.{◌≡◌, ℕ, suc, ◌+◌, ◌-◌, ◌≤◌, 
 use Rattle.std.specs.Option.{option_map}
 use Rattle.std.proofs.lemmas.List.{append-nil, nil_from_length, length-drop, length-take, length-take-le, take-append-drop, length-append, map-append}
 use Rattle.std.proofs.lemmas.Bool.{ne_eqb}
-use Rattle.std.proofs.lemmas.List.Elements.{All-push}
+use Rattle.std.proofs.lemmas.List.Elements.{All-push, All-tail}
 use Rattle.xdb_key.specs.Reading.{◌>>=◌}
 use Rattle.xdb_block.specs.declared.kind.BlockKind.{BlockKind}
 use Rattle.xdb_block.specs.declared.kind.BlockNo.{BlockNo}
@@ -112,12 +112,9 @@ left_over interval kind end count last o os front rest total none g =
 
 -- ---- the same over places
 
-tail_lies : (keys bytes : ℕ) (p : Place) (ps : List Place) → All (Lies keys bytes) (p ∷ ps) → All (Lies keys bytes) ps
-tail_lies keys bytes p ps h = λ k d less. h (suc k) d (omega arith)
-
 pub rows_kept : (old new bytes : List ℕ) (n : ℕ) (places : List Place) → All (Lies (length old) n) places → take (length old) new ≡ old → rows_of new bytes places ≡ rows_of old bytes places
 rows_kept old new bytes n [] lie grows = refl
-rows_kept old new bytes n (p ∷ places) lie grows = λ i. row_kept old new bytes n p (lie 0 p (omega arith)) grows i ∷ rows_kept old new bytes n places (tail_lies (length old) n p places lie) grows i
+rows_kept old new bytes n (p ∷ places) lie grows = λ i. row_kept old new bytes n p (lie 0 p (omega arith)) grows i ∷ rows_kept old new bytes n places (All-tail (Lies (length old) n) p places lie) grows i
 
 grown : (old new : List ℕ) → take (length old) new ≡ old → length old ≤ length new
 grown old new grows = omega (arith, length-take (length old) new, ap length grows)
@@ -214,7 +211,7 @@ rows_in_front : (keys bytes : List ℕ) (end : ℕ) (places : List Place) → Al
 rows_in_front keys bytes end [] lie = refl
 rows_in_front keys bytes end (p ∷ places) lie =
     let lies = lie 0 p (omega arith) in
-    λ i. row_in_front keys bytes end p lies.value_order lies.in_bytes i ∷ rows_in_front keys bytes end places (tail_lies (length keys) (length (take end bytes)) p places lie) i
+    λ i. row_in_front keys bytes end p lies.value_order lies.in_bytes i ∷ rows_in_front keys bytes end places (All-tail (Lies (length keys) (length (take end bytes))) p places lie) i
 
 -- what the entries answer is what the block does
 pub block_answers : (interval : ℕ) (kind : BlockKind) (bytes : List ℕ) (end : ℕ) (os : List ℕ) (result : Result Rows BlockNo) → restarts_at bytes ≡ Ok (end, os) → end ≤ length bytes

@@ -1,22 +1,18 @@
 -- Parts of lists, and how long two lists are the same.
-use Rattle.std.proofs.Common.{◌≡◌, ℕ, ◌+◌, ◌-◌, ◌≤◌, List, [], ◌∷◌, ◌++◌, length, take, drop, slice_range, refl, sym, ap, ◌∙◌, arith, Option, Some, None, IfSome}
-use Rattle.std.proofs.lemmas.List.{length-append, length-drop, take-append-le, drop-append-le, take-append-drop, take-take}
-use Rattle.std.proofs.Math.Seq.{take-length, drop-append_seam}
-use Rattle.std.proofs.Math.ListN.{drop_of_length-le}
+use Rattle.std.proofs.Common.{◌≡◌, ℕ, ◌+◌, ◌-◌, ◌≤◌, List, ◌++◌, length, take, drop, slice_range, refl, sym, ap, ◌∙◌, arith, Option, Some, None, IfSome}
+use Rattle.std.proofs.lemmas.List.{length-drop, take-append-le, drop-append-le, take-append-drop, take-take, take_rest}
+use Rattle.std.proofs.Math.Seq.{drop-append_seam}
 use Rattle.std.specs.List.{common_prefix_len}
 use Rattle.std.specs.Option.{option_map}
 use Rattle.std.specs.Prelude.{nat_eq}
+use Rattle.std.proofs.lemmas.List.Sums.{common_prefix_len-le}
 use Rattle.xdb_block.specs.declared.place.Place.{Place}
 use Rattle.xdb_block.specs.Kept.{row_of, Lies}
 use Rattle.xdb_block.specs.Rows.{row}
 
-common_nil : (a : List ℕ) → common_prefix_len nat_eq a [] ≡ 0
-common_nil [] = refl
-common_nil (x ∷ a) = refl
-
 -- nothing is left of the second list
 pub common_ends : (a b : List ℕ) (len : ℕ) → length b ≤ len → common_prefix_len nat_eq (drop len a) (drop len b) ≡ 0
-common_ends a b len h = ap (common_prefix_len nat_eq (drop len a)) (drop_of_length-le b {i = len} h) ∙ common_nil (drop len a)
+common_ends a b len h = omega (arith, (common_prefix_len-le nat_eq (drop len a) (drop len b)).1, length-drop len b)
 
 -- a part of a list's front
 pub range_front : (xs ys : List ℕ) (i j : ℕ) → i ≤ j → j ≤ length xs → slice_range (xs ++ ys) i j ≡ slice_range xs i j
@@ -44,6 +40,4 @@ range_take xs from to s within =
 
 -- all behind the front
 pub range_back : (xs ys : List ℕ) → slice_range (xs ++ ys) (length xs) (length (xs ++ ys)) ≡ ys
-range_back xs ys =
-    let len : length (xs ++ ys) - length xs ≡ length ys = omega (arith, length-append xs ys) in
-    (λ i. take (len i) (drop-append_seam xs ys i)) ∙ take-length ys
+range_back xs ys = take_rest (xs ++ ys) (length xs) ∙ drop-append_seam xs ys

@@ -1,6 +1,6 @@
 -- Keys in order, and how many of them stand before another.
-use Rattle.std.proofs.Common.{◌≡◌, ℕ, zero, suc, ◌+◌, ◌<◌, ◌≤◌, Bool, true, false, cond, List, [], ◌∷◌, length, map, get_or, Option, Some, None, All, refl, sym, ap, ◌∙◌, arith}
-use Rattle.std.proofs.lemmas.Bool.{and_parts, false≢true}
+use Rattle.std.proofs.Common.{◌≡◌, ℕ, zero, suc, ◌+◌, ◌<◌, ◌≤◌, Bool, true, false, cond, List, [], ◌∷◌, length, map, get_or, Option, Some, None, All, refl, sym, ap, ◌∙◌, arith, inl, inr}
+use Rattle.std.proofs.lemmas.Bool.{and_parts, false≢true, cases_lt}
 use Rattle.std.specs.declared.cmp.Ordering.{Ordering}
 use Rattle.std.specs.declared.cmp.Ordering.TheVariants.{Less, Equal, Greater}
 use Rattle.std.specs.Ordering.{nat_cmp, is_lt, ordering_then}
@@ -8,6 +8,7 @@ use Rattle.std.specs.Cmp.{alike_right, nat_cmp_total}
 use Rattle.std.specs.List.{prefix_len}
 use Rattle.std.specs.Option.{option_map}
 use Rattle.std.proofs.lemmas.List.{length-map, get_or-map}
+use Rattle.std.proofs.lemmas.List.Sums.{prefix_len_passes}
 use Rattle.xdb_key.proofs.OrderLaws.{key_total}
 use Rattle.xdb_key.specs.Kinds.{internal_cmp}
 use Rattle.xdb_key.specs.Order.{key_cmp}
@@ -18,7 +19,7 @@ use Rattle.xdb_block.specs.Rows.{Row, user_part, trailer_part, is_before, preced
 
 -- ---- internal order
 
-lt-tells : (r : Ordering) → is_lt r ≡ true → r ≡ Less
+pub lt-tells : (r : Ordering) → is_lt r ≡ true → r ≡ Less
 lt-tells Less h = refl
 lt-tells Equal h = absurd (false≢true h)
 lt-tells Greater h = absurd (false≢true h)
@@ -39,12 +40,6 @@ before_trans user trailer a b h g = before_by (user_part a) (user_part b) user (
 
 -- ---- how many stand before
 
-head_before : (f : List ℕ → Bool) (k : List ℕ) (ks : List (List ℕ)) → 0 < prefix_len f (k ∷ ks) → f k ≡ true
-head_before f k ks some = by (f k) refl some where
-  by : (b : Bool) → f k ≡ b → 0 < cond b (1 + prefix_len f ks) 0 → f k ≡ true
-  by true e some = e
-  by false e some = absurd (omega arith)
-
 one_more : (f : List ℕ → Bool) (k : List ℕ) (ks : List (List ℕ)) (n : ℕ) → f k ≡ true → n < prefix_len f ks → suc n < prefix_len f (k ∷ ks)
 one_more f k ks n e less =
     let is : prefix_len f (k ∷ ks) ≡ 1 + prefix_len f ks = ap (λ b. cond b (1 + prefix_len f ks) 0) e in
@@ -52,7 +47,7 @@ one_more f k ks n e less =
 
 head_rises : (user : List ℕ) (trailer : ℕ) (k : List ℕ) (ks : List (List ℕ)) → Rise (Some k) ks → 0 < prefix_len (is_before user trailer) ks → is_before user trailer k ≡ true
 head_rises user trailer k [] rise some = absurd (omega arith)
-head_rises user trailer k (l ∷ ks) rise some = before_trans user trailer k l rise.0 (head_before (is_before user trailer) l ks some)
+head_rises user trailer k (l ∷ ks) rise some = before_trans user trailer k l rise.0 (prefix_len_passes (is_before user trailer) (l ∷ ks) 0 l some)
 
 tail_rises : (last : Option (List ℕ)) (k : List ℕ) (ks : List (List ℕ)) → Rise last (k ∷ ks) → Rise (Some k) ks
 tail_rises None k ks rise = rise
@@ -71,21 +66,10 @@ counted user trailer last (k ∷ ks) (suc i) rise less e =
 
 -- one that isn't before it ends the count
 pub stops : (f : List ℕ → Bool) (ks : List (List ℕ)) (i : ℕ) → i < length ks → f (get_or ks i []) ≡ false → prefix_len f ks ≤ i
-stops f [] i less e = absurd (omega arith)
-stops f (k ∷ ks) zero less e =
-    let is : prefix_len f (k ∷ ks) ≡ 0 = ap (λ b. cond b (1 + prefix_len f ks) 0) e in
-    omega arith
-stops f (k ∷ ks) (suc i) less e = by (f k) (stops f ks i (omega arith) e) where
-  by : (b : Bool) → prefix_len f ks ≤ i → cond b (1 + prefix_len f ks) 0 ≤ suc i
-  by true h = omega arith
-  by false h = omega arith
-
-pub prefix_within : (f : List ℕ → Bool) (ks : List (List ℕ)) → prefix_len f ks ≤ length ks
-prefix_within f [] = omega arith
-prefix_within f (k ∷ ks) = by (f k) (prefix_within f ks) where
-  by : (b : Bool) → prefix_len f ks ≤ length ks → cond b (1 + prefix_len f ks) 0 ≤ suc (length ks)
-  by true h = omega arith
-  by false h = omega arith
+stops f ks i less e = elim (cases_lt i (prefix_len f ks)) [
+  | inl more ↦ absurd (false≢true (sym e ∙ prefix_len_passes f ks i [] more))
+  | inr upto ↦ upto
+]
 
 -- ---- keys of rows
 

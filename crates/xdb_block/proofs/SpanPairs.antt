@@ -1,30 +1,17 @@
 -- Spans that are apart from the ones just before them are apart from all before them.
-use Rattle.std.proofs.Common.{◌≡◌, ℕ, zero, suc, ◌<◌, Bool, true, false, ◌&&◌, ◌||◌, List, [], ◌∷◌, length, get_or, Option, Some, None, IsTrue, refl, sym, ap, ◌∙◌, arith, inl, inr, ◌⊎◌}
-use Rattle.std.proofs.lemmas.Bool.{and_parts, false≢true}
-use Rattle.std.specs.declared.cmp.Ordering.{Ordering}
-use Rattle.std.specs.declared.cmp.Ordering.TheVariants.{Less, Equal, Greater}
+use Rattle.std.proofs.Common.{◌≡◌, ℕ, zero, suc, ◌<◌, Bool, true, ◌&&◌, ◌||◌, List, [], ◌∷◌, length, get_or, Option, Some, None, IsTrue, sym, ap, ◌∙◌, arith, inl, inr}
+use Rattle.std.proofs.lemmas.Bool.{and_parts, or_cases, or_right}
 use Rattle.std.specs.Ordering.{is_eq}
 use Rattle.std.specs.List.{AllPairs}
+use Rattle.std.specs.Cmp.{Equal-is}
+use Rattle.std.proofs.lemmas.List.Kept.{AllPairs-cons}
 use Rattle.xdb_key.proofs.OrderLaws.{key_exact, upto_trans, upto_from_below}
 use Rattle.xdb_key.specs.Order.{key_cmp, is_below, is_upto}
 use Rattle.xdb_block.specs.declared.kind.BlockKind.TheVariants.{Spans}
 use Rattle.xdb_block.specs.Rows.{Row, user_part, suits, is_apart, Follow}
 
-eq-tells : (r : Ordering) → is_eq r ≡ true → r ≡ Equal
-eq-tells Less h = absurd (false≢true h)
-eq-tells Equal h = refl
-eq-tells Greater h = absurd (false≢true h)
-
 same-tells : (a b : List ℕ) → is_eq (key_cmp a b) ≡ true → a ≡ b
-same-tells a b h = key_exact a b (eq-tells _ h)
-
-or_cases : (a b : Bool) → (a || b) ≡ true → (a ≡ true) ⊎ (b ≡ true)
-or_cases true b h = inl refl
-or_cases false b h = inr h
-
-or_right : (a b : Bool) → b ≡ true → (a || b) ≡ true
-or_right true b h = refl
-or_right false b h = h
+same-tells a b h = key_exact a b ((Equal-is (key_cmp a b)).0 h)
 
 abbrev same : List ℕ → List ℕ → List ℕ → List ℕ → Bool
 same s e t f = is_eq (key_cmp s t) && is_eq (key_cmp e f)
@@ -58,11 +45,9 @@ apart_all last (r ∷ rows) h (suc j) d less =
     let x = get_or rows j d in
     apart_trans (user_part last.key) last.value (user_part r.key) r.value (user_part x.key) x.value some first (apart_all r rows h.1 j d (omega arith))
 
-pairs_from : (last : Option Row) (rows : List Row) → Follow Spans last rows → (i j : ℕ) (d : Row) → i < j → j < length rows → is_apart (get_or rows i d) (get_or rows j d) ≡ true
-pairs_from last [] h i j d order less = absurd (omega arith)
-pairs_from last (r ∷ rows) h i zero d order less = absurd (omega arith)
-pairs_from last (r ∷ rows) h zero (suc j) d order less = apart_all r rows h.1 j d (omega arith)
-pairs_from last (r ∷ rows) h (suc i) (suc j) d order less = pairs_from (Some r) rows h.1 i j d (omega arith) (omega arith)
+pairs_from : (last : Option Row) (rows : List Row) → Follow Spans last rows → AllPairs (λ a b. IsTrue (is_apart a b)) rows
+pairs_from last [] h = λ i j d order less. absurd (omega arith)
+pairs_from last (r ∷ rows) h = AllPairs-cons (λ a b. IsTrue (is_apart a b)) r rows (apart_all r rows h.1) (pairs_from (Some r) rows h.1)
 
 pub all_apart : (rows : List Row) → Follow Spans None rows → AllPairs (λ a b. IsTrue (is_apart a b)) rows
 all_apart rows h = pairs_from None rows h

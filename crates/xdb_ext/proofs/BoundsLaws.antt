@@ -1,8 +1,10 @@
 -- The extent of a table of operations: its bounds are theirs, and its numbers are 0.
-use Rattle.std.proofs.Common.{◌≡◌, ℕ, ◌+◌, ◌^◌, ◌<◌, ◌≤◌, Bool, true, false, not, ◌&&◌, ltb, List, [], ◌∷◌, ◌++◌, length, map, Option, Some, None, IsTrue, inl, inr, refl, sym, ap, ◌∙◌, subst, arith}
-use Rattle.std.proofs.lemmas.Bool.{and_parts, false≢true, lt-ltb}
+use Rattle.std.proofs.Common.{◌≡◌, ℕ, ◌+◌, ◌^◌, ◌<◌, ◌≤◌, true, not, ltb, List, [], ◌∷◌, ◌++◌, length, map, Option, Some, None, IsTrue, inl, inr, refl, sym, ap, ◌∙◌, subst, arith}
+use Rattle.std.proofs.lemmas.Bool.{and_parts, false≢true, lt-ltb, and_from, false_from_ne_true}
 use Rattle.std.proofs.lemmas.List.{length-map}
 use Rattle.std.specs.List.{All, AllByRecursion}
+use Rattle.std.proofs.lemmas.Option.{same_Some}
+use Rattle.std.proofs.lemmas.List.Elements.{All-from_recursion}
 use Rattle.xdb_key.proofs.OrderLaws.{upto-not_below, below-itself, upto-itself, upto_from_below, below_upto, upto_trans, upto_antisymm, below-successor}
 use Rattle.xdb_key.specs.Bounds.{Bounds, bounds, holds, covers, successor, key_hull}
 use Rattle.xdb_key.specs.Entries.{Point, point, Tombstone, tombstone, Reach}
@@ -22,18 +24,12 @@ use Rattle.xdb_rangedel.specs.Pieces.{pieces, is_ordered}
 use Rattle.xdb_table_w.proofs.KeyRows.{point_user, point_number, span_user, span_number}
 use Rattle.xdb_table_w.specs.Content.{Content, content, point_row, span_row}
 use Rattle.xdb_table_w.specs.Extents.{IsExtent, user, end, number, numbers}
-use Rattle.xdb_ext.proofs.OpLaws.{Has-filter_map, some_same}
+use Rattle.xdb_ext.proofs.OpLaws.{Has-filter_map}
 use Rattle.xdb_ext.specs.Operations.{point_of, span_of, points_of, spans_of, rows_of}
 use Rattle.xdb_ext.specs.TableBounds.{IsExtentOf}
 
-and_true : (a b : Bool) → a ≡ true → b ≡ true → (a && b) ≡ true
-and_true true b h g = g
-and_true false b h g = h
-
 at_member : {A : Type 0} (P : A → Type 0) (xs : List A) (x : A) → AllByRecursion P xs → Has xs x → P x
-at_member P [] x all has = absurd has
-at_member P (y ∷ ys) x all (inl e) = subst P e all.0
-at_member P (y ∷ ys) x all (inr has) = at_member P ys x all.1 has
+at_member P xs x all has = All-at_Has P xs x (All-from_recursion P xs all) has
 
 -- ---- range deletes and their fragments
 
@@ -44,7 +40,7 @@ pub record Cut (fs ts : List Tombstone) : Type 0 where
 
 covered_by : (fs ts : List Tombstone) (s : Tombstone) (k : List ℕ) (o : Option ℕ) → ((l : ℕ) → cover_of fs k l ≡ cover_of ts k l) → Has ts s → holds s.range k ≡ true → cover_of fs k (s.seq + 1) ≡ o → (t : Tombstone) × Has fs t × (holds t.range k ≡ true)
 covered_by fs ts s k None same has h e =
-    absurd (cover_of-None ts k (s.seq + 1) (sym (same (s.seq + 1)) ∙ e) s has (and_true (holds s.range k) (ltb s.seq (s.seq + 1)) h (lt-ltb s.seq (s.seq + 1) (omega arith))))
+    absurd (cover_of-None ts k (s.seq + 1) (sym (same (s.seq + 1)) ∙ e) s has (and_from (holds s.range k) (ltb s.seq (s.seq + 1)) h (lt-ltb s.seq (s.seq + 1) (omega arith))))
 covered_by fs ts s k (Some n) same has h e =
     let found = (cover_of-Some fs k (s.seq + 1) n e).0 in
     (found.0, found.1, (and_parts (holds found.0.range k) (ltb found.0.seq (s.seq + 1)) found.2).0)
@@ -78,43 +74,39 @@ around ops fs e h = record {
 
 lo_below : (e : Reach) (ops : List Op) (fs ts : List Tombstone) (s : Tombstone) → Around e ops fs → Cut fs ts → Has ts s → is_ordered s ≡ true → is_upto e.lo s.range.lo ≡ true
 lo_below e ops fs ts s a c has ordered =
-    let over = c.covered s s.range.lo has (and_true _ _ (upto-itself s.range.lo) ordered) in
+    let over = c.covered s s.range.lo has (and_from _ _ (upto-itself s.range.lo) ordered) in
     let starts = (and_parts _ (is_below s.range.lo over.0.range.hi) over.2).0 in
     upto_trans e.lo over.0.range.lo s.range.lo (and_parts _ (is_upto over.0.range.hi e.hi) (a.span over.0 over.1)).0 starts
 
 -- where the range ended inside the span, a fragment would reach over its end
 not_inside : (e : Reach) (ops : List Op) (fs ts : List Tombstone) (s : Tombstone) → Around e ops fs → Cut fs ts → Has ts s → is_ordered s ≡ true → is_below e.hi s.range.hi ≡ true → ⊥
 not_inside e ops fs ts s a c has ordered inside =
-    let first = c.covered s s.range.lo has (and_true _ _ (upto-itself s.range.lo) ordered) in
+    let first = c.covered s s.range.lo has (and_from _ _ (upto-itself s.range.lo) ordered) in
     let ends = (and_parts (is_upto e.lo first.0.range.lo) (is_upto first.0.range.hi e.hi) (a.span first.0 first.1)).1 in
     let before = upto_from_below s.range.lo e.hi (below_upto s.range.lo first.0.range.hi e.hi (and_parts (is_upto first.0.range.lo s.range.lo) _ first.2).1 ends) in
-    let over = c.covered s e.hi has (and_true _ _ before inside) in
+    let over = c.covered s e.hi has (and_from _ _ before inside) in
     let past = (and_parts (is_upto over.0.range.lo e.hi) (is_below e.hi over.0.range.hi) over.2).1 in
     let upto = (and_parts (is_upto e.lo over.0.range.lo) (is_upto over.0.range.hi e.hi) (a.span over.0 over.1)).1 in
     false≢true (sym (below-itself e.hi) ∙ below_upto e.hi over.0.range.hi e.hi past upto)
 
-not_from : (b : Bool) → (b ≡ true → ⊥) → not b ≡ true
-not_from true h = absurd (h refl)
-not_from false h = refl
-
 hi_above : (e : Reach) (ops : List Op) (fs ts : List Tombstone) (s : Tombstone) → Around e ops fs → Cut fs ts → Has ts s → is_ordered s ≡ true → is_upto s.range.hi e.hi ≡ true
-hi_above e ops fs ts s a c has ordered = upto-not_below s.range.hi e.hi ∙ not_from (is_below e.hi s.range.hi) (not_inside e ops fs ts s a c has ordered)
+hi_above e ops fs ts s a c has ordered = upto-not_below s.range.hi e.hi ∙ ap not (false_from_ne_true (is_below e.hi s.range.hi) (not_inside e ops fs ts s a c has ordered))
 
 -- a range that holds a key covers its hull
 hull_covered : (b : Bounds) (k : List ℕ) → holds b k ≡ true → covers b (key_hull k) ≡ true
 hull_covered b k h =
     let parts = and_parts (is_upto b.lo k) (is_below k b.hi) h in
-    and_true _ _ parts.0 (upto-not_below (successor k) b.hi ∙ ap not (below-successor b.hi k ∙ upto-not_below b.hi k ∙ ap not parts.1))
+    and_from _ _ parts.0 (upto-not_below (successor k) b.hi ∙ ap not (below-successor b.hi k ∙ upto-not_below b.hi k ∙ ap not parts.1))
 
 point_hull : (op : Op) (p : Point) → point_of op ≡ Some p → op_hull op ≡ key_hull p.key
-point_hull (Set key value) p e = ap (λ q. key_hull q.key) (some_same _ _ e)
-point_hull (Del key) p e = ap (λ q. key_hull q.key) (some_same _ _ e)
+point_hull (Set key value) p e = ap (λ q. key_hull q.key) (same_Some _ _ e)
+point_hull (Del key) p e = ap (λ q. key_hull q.key) (same_Some _ _ e)
 point_hull (DelSpan range) p e = absurd (cc)
 
 pub span_hull : (op : Op) (s : Tombstone) → span_of op ≡ Some s → (op_hull op ≡ s.range) × (s.seq ≡ 0)
 span_hull (Set key value) s e = absurd (cc)
 span_hull (Del key) s e = absurd (cc)
-span_hull (DelSpan range) s e = (ap (λ t. t.range) (some_same _ _ e), ap (λ t. t.seq) (sym (some_same _ _ e)))
+span_hull (DelSpan range) s e = (ap (λ t. t.range) (same_Some _ _ e), ap (λ t. t.seq) (sym (same_Some _ _ e)))
 
 covers_op : (e : Reach) (ops : List Op) (fs : List Tombstone) (op : Op) → Around e ops fs → Cut fs (spans_of ops) → All (λ t. IsTrue (is_ordered t)) (spans_of ops) → Has ops op → covers (bounds e.lo e.hi) (op_hull op) ≡ true
 covers_op e ops fs (Set key value) a c ordered has = hull_covered (bounds e.lo e.hi) key (a.key (point key 0 kinds.Set value) (Has-filter_map point_of ops (Set key value) _ has refl))
@@ -123,13 +115,13 @@ covers_op e ops fs (DelSpan range) a c ordered has =
     let s = tombstone range 0 in
     let there = Has-filter_map span_of ops (DelSpan range) s has refl in
     let is = All-at_Has (λ t. IsTrue (is_ordered t)) (spans_of ops) s ordered there in
-    and_true _ _ (lo_below e ops fs (spans_of ops) s a c there is) (hi_above e ops fs (spans_of ops) s a c there is)
+    and_from _ _ (lo_below e ops fs (spans_of ops) s a c there is) (hi_above e ops fs (spans_of ops) s a c there is)
 
 -- ---- the ends are those of operations
 
 pub point_zero : (op : Op) (p : Point) → point_of op ≡ Some p → p.seq ≡ 0
-point_zero (Set key value) p e = ap (λ q. q.seq) (sym (some_same _ _ e))
-point_zero (Del key) p e = ap (λ q. q.seq) (sym (some_same _ _ e))
+point_zero (Set key value) p e = ap (λ q. q.seq) (sym (same_Some _ _ e))
+point_zero (Del key) p e = ap (λ q. q.seq) (sym (same_Some _ _ e))
 point_zero (DelSpan range) p e = absurd (cc)
 
 from_point : (ops : List Op) (r : Row) → Has (map point_row (points_of ops)) r → (op : Op) × Has ops op × (op_hull op ≡ key_hull (user r)) × (number r ≡ 0)
@@ -234,7 +226,7 @@ some_of ops fs (DelSpan range) ordered same has =
     let s = tombstone range 0 in
     let there = Has-filter_map span_of ops (DelSpan range) s has refl in
     let is = All-at_Has (λ t. IsTrue (is_ordered t)) (spans_of ops) s ordered there in
-    let over = (cut fs (spans_of ops) ordered same).covered s range.lo there (and_true _ _ (upto-itself range.lo) is) in
+    let over = (cut fs (spans_of ops) ordered same).covered s range.lo there (and_from _ _ (upto-itself range.lo) is) in
     omega (arith, length-map fs span_row, some_there fs over.0 over.1)
 
 pub some_rows : (ops : List Op) (fs : List Tombstone) → is_table ops ≡ true → Pieced ops fs → 1 ≤ length (map point_row (points_of ops)) + length (map span_row fs)

@@ -1,6 +1,6 @@
 -- What an external table says of keys, and that its bounds and its refusal are one.
 use Rattle.std.proofs.Common.{◌≡◌, ℕ, ◌+◌, ◌≤◌, Bool, true, false, ◌&&◌, not, cond, ltb, leb, List, [], ◌∷◌, ◌++◌, length, map, Option, Some, None, is_none, ◌↔◌, ◌==◌, inl, inr, refl, sym, ap, ◌∙◌, subst, arith}
-use Rattle.std.proofs.lemmas.Bool.{and_parts, false≢true, cases_lt, lt-ltb, le-ltb, lt-leb, le-leb, eq-eqb, ne_eqb}
+use Rattle.std.proofs.lemmas.Bool.{and_parts, false≢true, cases_lt, lt-ltb, le-ltb, eq-eqb, ne_eqb, and_from}
 use Rattle.std.specs.Option.{option_map}
 use Rattle.xdb_key.proofs.OrderLaws.{below-itself, below_trans, upto_antisymm}
 use Rattle.xdb_key.specs.Bounds.{Bounds, bounds}
@@ -13,6 +13,7 @@ use Rattle.xdb_key.specs.declared.op.Op.TheVariants.{Set, Del, DelSpan}
 use Rattle.xdb_rangedel.proofs.MemberLaws.{Has-append_left, Has-append_right, Has-append_cases, Has-map, Has-from_map, Has-from_filter_map}
 use Rattle.xdb_rangedel.proofs.NewestLaws.{newest-greatest, same_key-itself}
 use Rattle.xdb_rangedel.proofs.SpanLaws.{entries_in-content_of, spans_in-content_of}
+use Rattle.xdb_rangedel.proofs.StripLaws.{leb-not}
 use Rattle.xdb_rangedel.specs.Content.{Item, entry, span, seq_of, same_key, rank, said_by, verdict, verdict_by, value_at, entry_of, content_of, IsClear, in_pieces}
 use Rattle.xdb_rangedel.specs.Members.{Has, SameMembers}
 use Rattle.xdb_rangedel.specs.Pieces.{pieces}
@@ -97,17 +98,13 @@ low_rank : (i : Item) → seq_of i ≡ 0 → rank i ≤ 1
 low_rank (entry key seq value) e = omega arith
 low_rank (span t) e = omega arith
 
-and_true : (a b : Bool) → a ≡ true → b ≡ true → (a && b) ≡ true
-and_true true b h g = g
-and_true false b h g = h
-
 pub point_stays : (ops : List Op) (p : Point) (limit : ℕ) → is_table ops ≡ true → Has (points_of ops) p → 1 ≤ limit → verdict (ops_content ops) limit p.key ≡ verdict_by (value_at p.kind p.value)
 point_stays ops p limit table has above =
     let member = Has-append_left (map entry_of (points_of ops)) (map span (spans_of ops)) (entry_of p) (Has-map entry_of (points_of ops) p has) in
     let none : p.seq ≡ 0 = all_zero ops (entry_of p) member in
     ap said_by (newest-greatest (ops_content ops) limit p.key (entry_of p) (is_clear ops table) (record {
       member = member;
-      seen = and_true (same_key p.key p.key) (ltb p.seq limit) (same_key-itself p.key) (lt-ltb p.seq limit (omega arith));
+      seen = and_from (same_key p.key p.key) (ltb p.seq limit) (same_key-itself p.key) (lt-ltb p.seq limit (omega arith));
       highest = λ j h s. let low = low_rank j (all_zero ops j h) in omega arith;
     }))
 
@@ -142,12 +139,6 @@ bounds_one ops a b h g =
     let lo = upto_antisymm a.lo b.lo (least ops a b h g) (least ops b a g h) in
     let hi = upto_antisymm a.hi b.hi (greatest ops b a g h) (greatest ops a b h g) in
     λ i. bounds (lo i) (hi i)
-
-leb-not : (a b : ℕ) → leb a b ≡ not (ltb b a)
-leb-not a b = elim (cases_lt b a) [
-  | inl h ↦ lt-leb a b h ∙ sym (ap not (lt-ltb b a h))
-  | inr h ↦ le-leb a b h ∙ sym (ap not (le-ltb b a h))
-]
 
 some-not : (n : ℕ) → leb 1 n ≡ not (n == 0)
 some-not n = leb-not 1 n ∙ ap not (elim (cases_lt n 1) [

@@ -18,9 +18,6 @@ use Rattle.xdb_ext.specs.Work.{AreFirst, Tried, AreHeld}
 pub one_longer : {A : Type 0} (xs ys : List A) (x : A) (n : ℕ) → ys ≡ xs ++ x ∷ [] → length xs ≡ n → length ys ≡ n + 1
 one_longer xs ys x n is count = omega (arith, ap length is, length-append xs (x ∷ []), count)
 
-pub still_room : (n room now : ℕ) → n ≤ room → room ≤ now → n ≤ now
-still_room n room now before more = omega arith
-
 -- the place of a table's number
 pub table_at : (tables : List (ℕ × List Op)) (i : ℕ) (t : ℕ × List Op) → i < length tables → t ≡ get_or tables i t → At (nums_of tables) i t.0
 table_at tables i t inside is = record {

@@ -6,14 +6,14 @@ use Rattle.std.proofs.lemmas.List.Elements.{filter_map-append}
 use Rattle.std.specs.List.{All, cons_option, filter_map}
 use Rattle.std.specs.Option.{option_map, option_to_list}
 use Rattle.std.specs.Ordering.{nat_cmp, is_lt, ordering_then}
-use Rattle.std.specs.declared.cmp.Ordering.{Ordering}
-use Rattle.std.specs.declared.cmp.Ordering.TheVariants.{Less, Equal, Greater}
+use Rattle.std.proofs.lemmas.Option.{same_Some}
 use Rattle.xdb_key.specs.Entries.{Point, point, Tombstone}
 use Rattle.xdb_key.specs.Ops.{rises, last_key, keeps_order, disorder_after, disorder, is_table}
 use Rattle.xdb_key.specs.Order.{key_cmp, is_below}
 use Rattle.xdb_key.specs.declared.op.Kind.TheVariants as kinds
 use Rattle.xdb_key.specs.declared.op.Op.{Op}
 use Rattle.xdb_key.specs.declared.op.Op.TheVariants.{Set, Del, DelSpan}
+use Rattle.xdb_block.proofs.SeekLaws.{lt-tells}
 use Rattle.xdb_block.specs.Rows.{Row, trailer_part}
 use Rattle.xdb_rangedel.specs.Members.{Has}
 use Rattle.xdb_rangedel.specs.Pieces.{AreFragments}
@@ -66,11 +66,6 @@ pub kept : (b : Bool) (rest : Option ℕ) (at : ℕ) → cond b rest (Some at) �
 kept true rest at e = (refl, e)
 kept false rest at e = absurd (cc)
 
-lt-tells : (r : Ordering) → is_lt r ≡ true → r ≡ Less
-lt-tells Less h = refl
-lt-tells Equal h = absurd (false≢true h)
-lt-tells Greater h = absurd (false≢true h)
-
 behind : (r : Row) (p : Point) → is_below (user r) p.key ≡ true → goes_behind (Some r) (point_row p) ≡ true
 behind r p h =
     ap (λ k. is_lt (ordering_then (key_cmp (user r) k) (nat_cmp (trailer_part (point_row p).key) (trailer_part r.key)))) (point_user p)
@@ -80,12 +75,9 @@ rising : (last : Option (List ℕ)) (row : Option Row) (p : Point) → option_ma
 rising last None p e h = refl
 rising last (Some r) p e h = behind r p (subst (λ l. rises l p.key ≡ true) (sym e) h)
 
-pub some_same : {A : Type 0} (x y : A) → Some x ≡ Some y → x ≡ y
-some_same x y e = cc
-
 first_behind : (last : Option (List ℕ)) (row : Option Row) (op : Op) (p : Point) → option_map user row ≡ last → keeps_order last op ≡ true → point_of op ≡ Some p → goes_behind row (point_row p) ≡ true
-first_behind last row (Set key value) p e h is = subst (λ o. goes_behind row (point_row o) ≡ true) (some_same _ _ is) (rising last row (point key 0 kinds.Set value) e h)
-first_behind last row (Del key) p e h is = subst (λ o. goes_behind row (point_row o) ≡ true) (some_same _ _ is) (rising last row (point key 0 kinds.Del []) e h)
+first_behind last row (Set key value) p e h is = subst (λ o. goes_behind row (point_row o) ≡ true) (same_Some _ _ is) (rising last row (point key 0 kinds.Set value) e h)
+first_behind last row (Del key) p e h is = subst (λ o. goes_behind row (point_row o) ≡ true) (same_Some _ _ is) (rising last row (point key 0 kinds.Del []) e h)
 first_behind last row (DelSpan range) p e h is = absurd (cc)
 
 -- the row of the last point, behind a row

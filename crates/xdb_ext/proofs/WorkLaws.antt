@@ -1,22 +1,23 @@
 -- Work that creates one file after another, as what its device tells sees it.
-use Rattle.std.proofs.Common.{◌≡◌, ℕ, zero, suc, ◌+◌, ◌-◌, ◌<◌, ◌≤◌, Bool, true, false, cond, List, [], ◌∷◌, ◌++◌, length, get_or, take, map, Option, Some, None, IfSome, Result, Ok, Err, inl, inr, ◌⊎◌, refl, sym, ap, ◌∙◌, subst, arith, append_assoc, append-nil}
-use Rattle.std.proofs.lemmas.Bool.{false≢true, eq-eqb}
+use Rattle.std.proofs.Common.{◌≡◌, ℕ, zero, suc, ◌+◌, ◌-◌, ◌<◌, ◌≤◌, false, cond, List, [], ◌∷◌, ◌++◌, length, get_or, take, map, Option, Some, None, IfSome, Result, Ok, Err, inl, inr, ◌⊎◌, refl, sym, ap, ◌∙◌, subst, arith, append_assoc, append-nil}
+use Rattle.std.proofs.lemmas.Bool.{false≢true, eq-eqb, ne_eqb}
 use Rattle.std.proofs.lemmas.Cmp.{nat_cmp_total, eq_by_cmp_equiv}
 use Rattle.std.proofs.lemmas.List.{take_more, length-append, length-take-le}
 use Rattle.std.proofs.Math.Seq.{take-append_seam}
 use Rattle.std.specs.FinMap as map
 use Rattle.std.specs.Io.KnownBytes.{append_known}
 use Rattle.std.specs.List.{AllByRecursion, IsDistinct}
-use Rattle.std.specs.Ordering.{nat_cmp, is_eq, eq_by_cmp}
-use Rattle.std.specs.declared.cmp.Ordering.{Ordering}
-use Rattle.std.specs.declared.cmp.Ordering.TheVariants.{Less, Equal, Greater}
+use Rattle.std.specs.Ordering.{nat_cmp, eq_by_cmp}
 use Rattle.std.specs.Prelude.{nat_eq, IsErr, IsErrOf, IsErrAnd}
+use Rattle.std.specs.Cmp.{unsigned_tied}
+use Rattle.std.proofs.lemmas.List.Elements.{All-push, All-from_recursion, recursion_from_All}
 use Rattle.xdb_device.specs.Told.{Held, Told, Created, IsListed, noted, put, without}
 use Rattle.xdb_device.specs.Work.{cause_of}
 use Rattle.xdb_device.specs.declared.fault.DevNo.{DevNo}
 use Rattle.xdb_device.specs.declared.fault.DevNo.TheVariants as dev
 use Rattle.xdb_device.specs.declared.fault.WorkCause.{WorkCause}
 use Rattle.xdb_device.specs.declared.fault.WorkCause.TheVariants as causes
+use Rattle.xdb_rangedel.proofs.FragmentLaws.{All-at_Has}
 use Rattle.xdb_rangedel.proofs.MemberLaws.{Has-from_Contains, Contains-from_Has, Has-append_left, Has-append_right, Has-append_cases, Has-get_or}
 use Rattle.xdb_rangedel.specs.Members.{Has}
 use Rattle.xdb_ext.specs.Work.{AreNew, Tried, IsHeld, AreHeld, under, but_last}
@@ -34,21 +35,6 @@ more nums i num at = take_more nums i num at.inside ∙ ap (λ n. take i nums ++
 has_later : (nums : List ℕ) (i num : ℕ) → At nums i num → Has nums num
 has_later nums i num at = subst (λ n. Has nums n) (sym at.is) (Has-get_or nums i num at.inside)
 
-in_front : (nums : List ℕ) (i n : ℕ) → Has (take i nums) n → Has nums n
-in_front [] zero n has = absurd has
-in_front [] (suc i) n has = absurd has
-in_front (m ∷ nums) zero n has = absurd has
-in_front (m ∷ nums) (suc i) n (inl e) = inl e
-in_front (m ∷ nums) (suc i) n (inr has) = inr (in_front nums i n has)
-
-differs : (n : ℕ) (ns : List ℕ) (m : ℕ) → AllByRecursion (λ k. nat_eq n k ≡ false) ns → Has ns m → nat_eq n m ≡ false
-differs n [] m all has = absurd has
-differs n (k ∷ ns) m all (inl e) = subst (λ x. nat_eq n x ≡ false) e all.0
-differs n (k ∷ ns) m all (inr has) = differs n ns m all.1 has
-
-eq_itself : (n : ℕ) → nat_eq n n ≡ true
-eq_itself n = eq-eqb n n refl
-
 -- the number at a place isn't among those before
 pub apart : (nums : List ℕ) (i num : ℕ) → IsDistinct nat_eq nums → At nums i num → Has (take i nums) num → ⊥
 unfolding IsDistinct
@@ -56,7 +42,7 @@ apart [] i num distinct at has = absurd (omega (arith, at.inside))
 apart (m ∷ nums) zero num distinct at has = absurd has
 apart (m ∷ nums) (suc i) num distinct at (inl e) =
     let later : Has nums m = subst (λ n. Has nums n) (sym e) (has_later nums i num (record { inside = omega (arith, at.inside); is = at.is })) in
-    false≢true (sym (differs m nums m distinct.0 later) ∙ eq_itself m)
+    false≢true (sym (All-at_Has (λ k. nat_eq m k ≡ false) nums m (All-from_recursion (λ k. nat_eq m k ≡ false) nums distinct.0) later) ∙ eq-eqb m m refl)
 apart (m ∷ nums) (suc i) num distinct at (inr has) = apart nums i num distinct.1 (record { inside = omega (arith, at.inside); is = at.is }) has
 
 -- ---- lists that are told
@@ -78,20 +64,8 @@ append_none (Some xs) = ap Some (sym (append-nil xs))
 
 -- ---- what is held
 
-eq-tells : (r : Ordering) → is_eq r ≡ true → r ≡ Equal
-eq-tells Less h = absurd (false≢true h)
-eq-tells Equal h = refl
-eq-tells Greater h = absurd (false≢true h)
-
 other_key : (a b : ℕ) → (a ≡ b → ⊥) → eq_by_cmp nat_cmp a b ≡ false
-other_key a b h = other_by (eq_by_cmp nat_cmp a b) refl
-  where
-    other_by : (r : Bool) → eq_by_cmp nat_cmp a b ≡ r → r ≡ false
-    other_by true e = absurd (h (map.nat_cmp-IsAntisymmetric a b (eq-tells (nat_cmp a b) e)))
-    other_by false e = refl
-
-same_number : (a : ℕ) → eq_by_cmp nat_cmp a a ≡ true
-same_number a = (eq_by_cmp_equiv nat_cmp_total).refl a
+other_key a b h = unsigned_tied a b ∙ ne_eqb a b h
 
 under-put : (num other : ℕ) (bytes : List ℕ) (holds : Option Held) → (other ≡ num → ⊥) → under other (put num bytes holds) ≡ under other holds
 under-put num other bytes None h = refl
@@ -189,10 +163,6 @@ first_numbers nums tried i inside is = is ∙ ap (λ n. take n nums) (sym (ap le
 
 -- ---- files that are held
 
-all_push : {A : Type 0} (P : A → Type 0) (xs : List A) (x : A) → AllByRecursion P xs → P x → AllByRecursion P (xs ++ x ∷ [])
-all_push P [] x all p = (p, tt)
-all_push P (y ∷ xs) x all p = (all.0, all_push P xs x all.1 p)
-
 module _ {F : Type 0} (size : F → ℕ) (bytes : F → Option (List ℕ)) where
   held_beside : (held : Held) (num : ℕ) (is : List ℕ) (files : List (ℕ × F)) → (Has (map (λ f. f.0) files) num → ⊥) → AllByRecursion (IsHeld size bytes held) files → AllByRecursion (IsHeld size bytes (map.insert held num is)) files
   held_beside held num is [] apart all = tt
@@ -211,13 +181,14 @@ module _ {F : Type 0} (size : F → ℕ) (bytes : F → Option (List ℕ)) where
       → AreHeld size bytes holds files → AreHeld size bytes new (files ++ (num, file) ∷ [])
   held_more None new num is file files apart made len told all = subst (λ h. AreHeld size bytes h (files ++ (num, file) ∷ [])) (sym made) tt
   held_more (Some held) new num is file files apart made len told all =
-      let last : IsHeld size bytes (map.insert held num is) (num, file) = record {
+      let P = IsHeld size bytes (map.insert held num is) in
+      let last : P (num, file) = record {
         is = is;
-        there = map.get-insert nat_cmp_total held num is num ∙ ap (λ b. cond b (Some is) (map.get held num)) (same_number num);
+        there = map.get-insert nat_cmp_total held num is num ∙ ap (λ b. cond b (Some is) (map.get held num)) ((eq_by_cmp_equiv nat_cmp_total).refl num);
         len = len;
         told = told;
       } in
-      subst (λ h. AreHeld size bytes h (files ++ (num, file) ∷ [])) (sym made) (all_push (IsHeld size bytes (map.insert held num is)) files (num, file) (held_beside held num is files apart all) last)
+      subst (λ h. AreHeld size bytes h (files ++ (num, file) ∷ [])) (sym made) (recursion_from_All P (files ++ (num, file) ∷ []) (All-push P files (num, file) (All-from_recursion P files (held_beside held num is files apart all)) last))
 
 -- ---- what stopped the work
 

@@ -2,6 +2,7 @@
 use Rattle.std.proofs.Common.{◌≡◌, ℕ, ◌<◌, ◌≤◌, Bool, true, false, not, ◌&&◌, cond, ltb, List, [], ◌∷◌, ◌++◌, Option, Some, None, inl, inr, IsTrue, refl, sym, ap, ◌∙◌, subst, arith}
 use Rattle.std.proofs.lemmas.Bool.{lt-ltb, le-ltb, cases_lt, false≢true, and_parts, and_from, cases_Bool}
 use Rattle.std.specs.List.{filter_map, cons_option}
+use Rattle.std.proofs.Math.Bool.{and_assoc, and_comm}
 use Rattle.xdb_key.specs.Order.{is_below, is_upto}
 use Rattle.xdb_key.specs.Bounds.{Bounds, bounds, holds, meets}
 use Rattle.xdb_key.specs.Entries.{Tombstone, tombstone}
@@ -186,15 +187,15 @@ cover_in None k limit = None
 cover_in (Some t) k limit = cover_by t k limit
 
 -- a span that holds a key where both hold it
-guarded : (h g b : Bool) (n : ℕ) → cond ((h && g) && b) (Some n) None ≡ cond h (cond (g && b) (Some n) None) None
-guarded true g b n = refl
-guarded false g b n = refl
+pub guarded : {B : Type 0} (h g b : Bool) (x : B) → cond ((h && g) && b) (Some x) None ≡ cond h (cond (g && b) (Some x) None) None
+guarded true g b x = refl
+guarded false g b x = refl
 
 -- it holds no key that the range holds
-guarded_none : (h g b : Bool) (n : ℕ) → (h ≡ true → g ≡ true → ⊥) → ◌≡◌ {A = Option ℕ} None (cond h (cond (g && b) (Some n) None) None)
-guarded_none true true b n not_both = absurd (not_both refl refl)
-guarded_none true false b n not_both = refl
-guarded_none false g b n not_both = refl
+pub guarded_none : {B : Type 0} (h g b : Bool) (x : B) → (h ≡ true → g ≡ true → ⊥) → ◌≡◌ {A = Option B} None (cond h (cond (g && b) (Some x) None) None)
+guarded_none true true b x not_both = absurd (not_both refl refl)
+guarded_none true false b x not_both = refl
+guarded_none false g b x not_both = refl
 
 cover_part_in : (r : Bounds) (t : Tombstone) (k : List ℕ) (limit : ℕ) → cover_in (part_in r t) k limit ≡ cond (holds r k) (cover_by t k limit) None
 cover_part_in r t k limit = elim (cases_Bool (meets t.range r)) [
@@ -204,20 +205,10 @@ cover_part_in r t k limit = elim (cases_Bool (meets t.range r)) [
       ∙ guarded_none (holds r k) (holds t.range k) (ltb t.seq limit) t.seq (λ g h. false≢true (sym n ∙ meets-from_held t.range r k h g))
 ]
 
-and_first : (a b c : Bool) → (a && (b && c)) ≡ (b && (a && c))
-and_first true true c = refl
-and_first true false c = refl
-and_first false true c = refl
-and_first false false c = refl
-
-and_grouped : (a b c : Bool) → ((a && b) && c) ≡ (a && (b && c))
-and_grouped true b c = refl
-and_grouped false b c = refl
-
 cover_part_before : (at : List ℕ) (t : Tombstone) (k : List ℕ) (limit : ℕ) → cover_in (part_before at t) k limit ≡ cond (is_below k at) (cover_by t k limit) None
 cover_part_before at t k limit = elim (cases_Bool (is_below t.range.lo at)) [
   | inl m ↦ ap (λ b. cover_in (cond b (Some (ending_by at t)) None) k limit) m
-      ∙ ap (λ b. cond (b && ltb t.seq limit) (Some t.seq) None) (ap (λ b. is_upto t.range.lo k && b) (below-earlier_of at t.range.hi k) ∙ and_first (is_upto t.range.lo k) (is_below k at) (is_below k t.range.hi))
+      ∙ ap (λ b. cond (b && ltb t.seq limit) (Some t.seq) None) (ap (λ b. is_upto t.range.lo k && b) (below-earlier_of at t.range.hi k) ∙ sym (and_assoc (is_upto t.range.lo k) (is_below k at) (is_below k t.range.hi)) ∙ ap (λ b. b && is_below k t.range.hi) (and_comm (is_upto t.range.lo k) (is_below k at)) ∙ and_assoc (is_below k at) (is_upto t.range.lo k) (is_below k t.range.hi))
       ∙ guarded (is_below k at) (holds t.range k) (ltb t.seq limit) t.seq
   | inr n ↦ ap (λ b. cover_in (cond b (Some (ending_by at t)) None) k limit) n
       ∙ guarded_none (is_below k at) (holds t.range k) (ltb t.seq limit) t.seq (λ g h. false≢true (sym n ∙ upto_below t.range.lo k at (and_parts (is_upto t.range.lo k) (is_below k t.range.hi) h).0 g))
@@ -226,7 +217,7 @@ cover_part_before at t k limit = elim (cases_Bool (is_below t.range.lo at)) [
 cover_part_from : (at : List ℕ) (t : Tombstone) (k : List ℕ) (limit : ℕ) → cover_in (part_from at t) k limit ≡ cond (is_upto at k) (cover_by t k limit) None
 cover_part_from at t k limit = elim (cases_Bool (is_below at t.range.hi)) [
   | inl m ↦ ap (λ b. cover_in (cond b (Some (starting_from at t)) None) k limit) m
-      ∙ ap (λ b. cond (b && ltb t.seq limit) (Some t.seq) None) (ap (λ b. b && is_below k t.range.hi) (upto-later_of at t.range.lo k) ∙ and_grouped (is_upto at k) (is_upto t.range.lo k) (is_below k t.range.hi))
+      ∙ ap (λ b. cond (b && ltb t.seq limit) (Some t.seq) None) (ap (λ b. b && is_below k t.range.hi) (upto-later_of at t.range.lo k) ∙ and_assoc (is_upto at k) (is_upto t.range.lo k) (is_below k t.range.hi))
       ∙ guarded (is_upto at k) (holds t.range k) (ltb t.seq limit) t.seq
   | inr n ↦ ap (λ b. cover_in (cond b (Some (starting_from at t)) None) k limit) n
       ∙ guarded_none (is_upto at k) (holds t.range k) (ltb t.seq limit) t.seq (λ g h. false≢true (sym n ∙ upto_below at k t.range.hi g (and_parts (is_upto t.range.lo k) (is_below k t.range.hi) h).1))
@@ -240,7 +231,7 @@ greater-cond : (h : Bool) (a b : Option ℕ) → greater (cond h a None) (cond h
 greater-cond true a b = refl
 greater-cond false a b = refl
 
-none-cond : (h : Bool) → ◌≡◌ {A = Option ℕ} None (cond h None None)
+pub none-cond : {B : Type 0} (h : Bool) → ◌≡◌ {A = Option B} None (cond h None None)
 none-cond true = refl
 none-cond false = refl
 

@@ -1,10 +1,11 @@
 -- Parts of fragments are fragments.
-use Rattle.std.proofs.Common.{◌≡◌, ℕ, suc, ◌<◌, Bool, true, false, ◌&&◌, cond, ltb, List, [], ◌∷◌, get_or, Option, Some, None, inl, inr, IsTrue, refl, sym, ap, ◌∙◌, arith}
+use Rattle.std.proofs.Common.{◌≡◌, ℕ, suc, ◌<◌, true, ◌&&◌, cond, ltb, List, [], ◌∷◌, get_or, Option, Some, None, inl, inr, IsTrue, refl, sym, ap, ◌∙◌, arith}
 use Rattle.std.proofs.lemmas.Bool.{cases_Bool, and_parts, and_from, or_left, or_right, lt-ltb}
 use Rattle.std.proofs.lemmas.List.Elements.{All-nil, All-cons, All-tail, All-contains}
 use Rattle.std.proofs.lemmas.List.Kept.{AllPairs-cons}
 use Rattle.std.specs.List.{All, AllPairs, filter_map, cons_option}
 use Rattle.std.specs.Ordering.{eq_by_cmp}
+use Rattle.std.proofs.lemmas.Option.{cond_some}
 use Rattle.xdb_key.specs.Order.{key_cmp, is_below, is_upto}
 use Rattle.xdb_key.specs.Bounds.{Bounds, bounds, meets}
 use Rattle.xdb_key.specs.Entries.{Tombstone, tombstone}
@@ -63,11 +64,6 @@ module _ (f : Tombstone → Option Tombstone) (order : (s u : Tombstone) → is_
   AreFragments-filter_map [] fragments = AreFragments-nil
   AreFragments-filter_map (t ∷ ts) fragments = filtered_with t ts (f t) refl fragments (AreFragments-filter_map ts (AreFragments-tail t ts fragments))
 
--- what a test keeps was kept, and is this
-kept_if : {B : Type 0} (b : Bool) (y z : B) → cond b (Some y) None ≡ Some z → (b ≡ true) × (y ≡ z)
-kept_if true y z e = (refl, cc)
-kept_if false y z e = absurd (cc)
-
 earlier-upto : (a b : List ℕ) → is_upto (earlier_of a b) b ≡ true
 earlier-upto a b = elim (cases_Bool (is_below a b)) [
   | inl h ↦ ap (λ x. is_upto (cond x a b) b) h ∙ upto_from_below a b h
@@ -105,31 +101,31 @@ along_both s t u v e g h = sym (λ i. precedes (e i) (g i)) ∙ h
 pub AreFragments-parts_before : (at : List ℕ) (ts : List Tombstone) → AreFragments ts → AreFragments (parts_before at ts)
 AreFragments-parts_before at = AreFragments-filter_map (part_before at)
     (λ s u o e.
-    let (started, same) = kept_if (is_below s.range.lo at) (ending_by at s) u e in
+    let (started, same) = cond_some (is_below s.range.lo at) (ending_by at s) u e in
     ap is_ordered (sym same) ∙ below-earlier s.range.lo at s.range.hi started o)
     (λ s t u v before e g.
-    along_both (ending_by at s) (ending_by at t) u v (kept_if (is_below s.range.lo at) (ending_by at s) u e).1 (kept_if (is_below t.range.lo at) (ending_by at t) v g).1
+    along_both (ending_by at s) (ending_by at t) u v (cond_some (is_below s.range.lo at) (ending_by at s) u e).1 (cond_some (is_below t.range.lo at) (ending_by at t) v g).1
     (apart_by (λ r. bounds r.lo (earlier_of at r.hi)) s t (λ a b apart. upto_trans (earlier_of at a.hi) a.hi b.lo (earlier-upto at a.hi) apart) before))
 
 pub AreFragments-parts_from : (at : List ℕ) (ts : List Tombstone) → AreFragments ts → AreFragments (parts_from at ts)
 AreFragments-parts_from at = AreFragments-filter_map (part_from at)
     (λ s u o e.
-    let (open_, same) = kept_if (is_below at s.range.hi) (starting_from at s) u e in
+    let (open_, same) = cond_some (is_below at s.range.hi) (starting_from at s) u e in
     ap is_ordered (sym same) ∙ later-below s.range.hi at s.range.lo open_ o)
     (λ s t u v before e g.
-    along_both (starting_from at s) (starting_from at t) u v (kept_if (is_below at s.range.hi) (starting_from at s) u e).1 (kept_if (is_below at t.range.hi) (starting_from at t) v g).1
+    along_both (starting_from at s) (starting_from at t) u v (cond_some (is_below at s.range.hi) (starting_from at s) u e).1 (cond_some (is_below at t.range.hi) (starting_from at t) v g).1
     (apart_by (λ r. bounds (later_of at r.lo) r.hi) s t (λ a b apart. upto_trans a.hi b.lo (later_of at b.lo) apart (upto-later at b.lo)) before))
 
 pub AreFragments-parts_in : (r : Bounds) (ts : List Tombstone) → is_below r.lo r.hi ≡ true → AreFragments ts → AreFragments (parts_in r ts)
 AreFragments-parts_in r ts sane = AreFragments-filter_map (part_in r)
     (λ s u o e.
-    let (met, same) = kept_if (meets s.range r) (starting_from r.lo (ending_by r.hi s)) u e in
+    let (met, same) = cond_some (meets s.range r) (starting_from r.lo (ending_by r.hi s)) u e in
     let (started, open_) = and_parts (is_below s.range.lo r.hi) (is_below r.lo s.range.hi) met in
     ap is_ordered (sym same)
     ∙ below-earlier (later_of r.lo s.range.lo) r.hi s.range.hi (later-below r.hi r.lo s.range.lo sane started) (later-below s.range.hi r.lo s.range.lo open_ o))
     (λ s t u v before e g.
     let part = λ (x : Tombstone). starting_from r.lo (ending_by r.hi x) in
-    along_both (part s) (part t) u v (kept_if (meets s.range r) (part s) u e).1 (kept_if (meets t.range r) (part t) v g).1
+    along_both (part s) (part t) u v (cond_some (meets s.range r) (part s) u e).1 (cond_some (meets t.range r) (part t) v g).1
     (apart_by (λ x. bounds (later_of r.lo x.lo) (earlier_of r.hi x.hi)) s t
     (λ a b apart. upto_trans (earlier_of r.hi a.hi) a.hi (later_of r.lo b.lo) (earlier-upto r.hi a.hi) (upto_trans a.hi b.lo (later_of r.lo b.lo) apart (upto-later r.lo b.lo))) before))
     ts

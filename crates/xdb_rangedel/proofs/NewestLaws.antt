@@ -5,9 +5,7 @@ use Rattle.std.specs.FinMap.{FinMap, same_map}
 use Rattle.xdb_key.specs.Order.{key_cmp}
 use Rattle.xdb_key.proofs.OrderLaws.{key_exact, key_total}
 use Rattle.std.specs.Ordering.{is_eq}
-use Rattle.std.specs.Cmp.{tied_itself}
-use Rattle.std.specs.declared.cmp.Ordering.{Ordering}
-use Rattle.std.specs.declared.cmp.Ordering.TheVariants.{Less, Equal, Greater}
+use Rattle.std.specs.Cmp.{tied_itself, Equal-is}
 use Rattle.xdb_rangedel.specs.Members.{Has, SameMembers}
 use Rattle.xdb_rangedel.specs.Content.{Item, entry, span, Mark, seq_of, same_key, here, rank, said, verdict_by, mark, is_seen, mark_at, newer, newest, IsImage, IsClear}
 use Rattle.xdb_rangedel.specs.Layers.{IsGreatest, IsAllBelow, IsAllFrom, IsSilentAt}
@@ -148,13 +146,8 @@ newest-Some c limit k m e = decided_at c limit k (Some m) e
 
 -- clear contents
 
-eq-tells : (r : Ordering) → is_eq r ≡ true → r ≡ Equal
-eq-tells Less h = absurd (false≢true h)
-eq-tells Equal h = refl
-eq-tells Greater h = absurd (false≢true h)
-
 pub same_key-tells : (a b : List ℕ) → same_key a b ≡ true → a ≡ b
-same_key-tells a b h = key_exact a b (eq-tells (key_cmp a b) h)
+same_key-tells a b h = key_exact a b ((Equal-is (key_cmp a b)).0 h)
 
 pub same_key-itself : (a : List ℕ) → same_key a a ≡ true
 same_key-itself a = ap is_eq (tied_itself key_total a)

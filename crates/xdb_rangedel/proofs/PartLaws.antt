@@ -1,6 +1,6 @@
 -- Searches in fragments, and the parts that they find.
 use Rattle.std.proofs.Common.{◌≡◌, ℕ, zero, suc, ◌+◌, ◌-◌, min, ◌<◌, ◌≤◌, Bool, true, false, not, ◌&&◌, cond, ltb, leb, List, [], ◌∷◌, length, get_or, take, drop, map, Option, Some, None, inl, inr, ◌⊎◌, IsTrue, refl, sym, ap, ◌∙◌, subst, arith}
-use Rattle.std.proofs.lemmas.Bool.{cases_Bool, cases_order, and_parts, and_from, and_left, and_right, or_cases, or_parts, or_left, or_right, false≢true, ltb-true, leb-true, leb-false, lt-ltb, le-ltb, not-true}
+use Rattle.std.proofs.lemmas.Bool.{cases_Bool, cases_order, and_parts, and_from, and_left, and_right, or_cases, or_parts, or_left, or_right, false≢true, ltb-true, leb-true, leb-false, lt-ltb, le-ltb, not-true, le-leb, cond-true, cond-false}
 use Rattle.std.proofs.lemmas.List.{get_or_default, get_or-drop, length-drop, length-take, get_or-take, take_rest}
 use Rattle.std.proofs.lemmas.List.Elements.{All-drop}
 use Rattle.std.specs.List.{All, filter_map, cons_option}
@@ -57,9 +57,6 @@ starts_before-partitioned at ts fragments = partitioned_by (starts_before at) ts
   | inr apart ↦ below_trans s.range.lo s.range.hi at os (upto_below s.range.hi t.range.lo at apart h)
 ])
 
-le-leb_at : (a b : ℕ) → a ≤ b → leb a b ≡ true
-le-leb_at a b h = elim (cases_Bool (leb a b)) [ inl e ↦ e | inr e ↦ absurd (omega (arith, leb-false a b e)) ]
-
 pub is_passed-partitioned : (key : List ℕ) (limit : ℕ) (ts : List Tombstone) → AreFragments ts → IsPartitionedBy (is_passed key limit) ts
 is_passed-partitioned key limit ts fragments = partitioned_by (is_passed key limit) ts fragments (λ s t os ot before h. elim (precedes_tells s t before) [
   | inl (same, less) ↦ elim (or_cases (ends_by key t) (is_upto t.range.lo key && leb limit t.seq) h) [
@@ -67,7 +64,7 @@ is_passed-partitioned key limit ts fragments = partitioned_by (is_passed key lim
     | inr high ↦
         let (start, number) = and_parts (is_upto t.range.lo key) (leb limit t.seq) high in
         let low : limit ≤ t.seq = leb-true limit t.seq number in
-        or_right (ends_by key s) (is_upto s.range.lo key && leb limit s.seq) (and_from (is_upto s.range.lo key) (leb limit s.seq) (ap (λ r. is_upto r.lo key) same ∙ start) (le-leb_at limit s.seq (omega arith)))
+        or_right (ends_by key s) (is_upto s.range.lo key && leb limit s.seq) (and_from (is_upto s.range.lo key) (leb limit s.seq) (ap (λ r. is_upto r.lo key) same ∙ start) (le-leb limit s.seq (omega arith)))
   ]
   | inr apart ↦
       let start : is_upto t.range.lo key ≡ true = elim (or_cases (ends_by key t) (is_upto t.range.lo key && leb limit t.seq) h) [
@@ -117,16 +114,12 @@ later_tells key limit ts n j t u f less inside at_t at_u =
 one_place : (ts : List Tombstone) (n j : ℕ) (t u : Tombstone) → j < length ts → j ≡ n → t ≡ get_or ts n t → get_or ts j u ≡ u → u ≡ t
 one_place ts n j t u inside e at_t at_u = sym at_u ∙ ap (λ i. get_or ts i u) e ∙ get_or_default ts n u t (omega arith) ∙ sym at_t
 
-and_second : (a b : Bool) → (a && b) ≡ false → a ≡ true → b ≡ false
-and_second true b h e = h
-and_second false b h e = absurd (false≢true e)
-
 pub cover_found : (key : List ℕ) (limit : ℕ) (ts : List Tombstone) (n : ℕ) (t : Tombstone) → AreFragments ts → IsPartitionPoint (λ x. is_passed key limit x ≡ true) (λ x. is_passed key limit x ≡ false) ts n → n < length ts → t ≡ get_or ts n t → holds t.range key ≡ true → Some t.seq ≡ cover_of ts key limit
 cover_found key limit ts n t fragments split inside at_t held =
     let f : Found key limit ts n = record { fragments = fragments; split = split } in
     let (behind, number) = open_there key limit ts n t f inside at_t in
     let start = (and_parts (is_upto t.range.lo key) (is_below key t.range.hi) held).0 in
-    let low : t.seq < limit = leb-false limit t.seq (and_second (is_upto t.range.lo key) (leb limit t.seq) number start) in
+    let low : t.seq < limit = leb-false limit t.seq (ap (λ b. b && leb limit t.seq) (sym start) ∙ number) in
     cover_of-covered ts key limit (Some t.seq) (
       (t, subst (λ x. Has ts x) (sym at_t) (Has-get_or ts n t inside), and_from (holds t.range key) (ltb t.seq limit) held (lt-ltb t.seq limit low), refl),
       λ u has covers.
@@ -192,18 +185,11 @@ filter_map_drop f [] (suc n) h = refl
 filter_map_drop f (x ∷ xs) (suc n) h =
     ap (λ o. cons_option o (filter_map f xs)) (h 0 x (omega arith) (omega arith)) ∙ filter_map_drop f xs n (λ i d a l. h (suc i) d (omega arith) (omega arith))
 
--- what a test keeps
-some_if : {B : Type 0} (b : Bool) (y : B) → b ≡ true → cond b (Some y) None ≡ Some y
-some_if b y h = ap (λ x. cond x (Some y) None) h
-
-none_if : {B : Type 0} (b : Bool) (y : B) → b ≡ false → cond b (Some y) None ≡ None
-none_if b y h = ap (λ x. cond x (Some y) None) h
-
 pub parts_before-front : (at : List ℕ) (ts : List Tombstone) (n : ℕ) → IsPartitionPoint (λ t. starts_before at t ≡ true) (λ t. starts_before at t ≡ false) ts n → n ≤ length ts → parts_before at ts ≡ map (ending_by at) (take n ts)
 parts_before-front at ts n split inside =
     filter_map_front (part_before at) (ending_by at) ts n
-    (λ i d a l. some_if (is_below (get_or ts i d).range.lo at) (ending_by at (get_or ts i d)) (split.0 i d (omega arith) a))
-    (λ i d a l. none_if (is_below (get_or ts i d).range.lo at) (ending_by at (get_or ts i d)) (split.1 i d a l))
+    (λ i d a l. cond-true (is_below (get_or ts i d).range.lo at) (Some (ending_by at (get_or ts i d))) None (split.0 i d (omega arith) a))
+    (λ i d a l. cond-false (is_below (get_or ts i d).range.lo at) (Some (ending_by at (get_or ts i d))) None (split.1 i d a l))
 
 -- what doesn't end at the bound or before reaches behind it
 open_behind : (at : List ℕ) (t : Tombstone) → ends_by at t ≡ false → is_below at t.range.hi ≡ true
@@ -214,10 +200,10 @@ ended at t h = below-false at t.range.hi h
 
 pub parts_from-back : (at : List ℕ) (ts : List Tombstone) (n : ℕ) → IsPartitionPoint (λ t. ends_by at t ≡ true) (λ t. ends_by at t ≡ false) ts n → n ≤ length ts → parts_from at ts ≡ map (starting_from at) (drop n ts)
 parts_from-back at ts n split inside =
-    filter_map_drop (part_from at) ts n (λ i d a l. none_if (is_below at (get_or ts i d).range.hi) (starting_from at (get_or ts i d)) (ended at (get_or ts i d) (split.0 i d (omega arith) a)))
+    filter_map_drop (part_from at) ts n (λ i d a l. cond-false (is_below at (get_or ts i d).range.hi) (Some (starting_from at (get_or ts i d))) None (ended at (get_or ts i d) (split.0 i d (omega arith) a)))
     ∙ filter_map_all (part_from at) (starting_from at) (drop n ts) (λ i d l.
     let there : i < length ts - n = subst (λ m. i < m) (length-drop n ts) l in
-    some_if (is_below at (get_or (drop n ts) i d).range.hi) (starting_from at (get_or (drop n ts) i d))
+    cond-true (is_below at (get_or (drop n ts) i d).range.hi) (Some (starting_from at (get_or (drop n ts) i d))) None
     (ap (λ x. is_below at x.range.hi) (get_or-drop n ts i d) ∙ open_behind at (get_or ts (n + i) d) (split.1 (n + i) d (omega arith) (omega arith))))
 
 -- a part that is whole, and one that is cut
@@ -260,15 +246,15 @@ module _ (r : Bounds) (ts : List Tombstone) (n m : ℕ) (ends : IsPartitionPoint
 
   pub parts_in-middle : parts_in r ts ≡ map (λ t. starting_from r.lo (ending_by r.hi t)) (take m (drop n ts))
   parts_in-middle =
-      filter_map_drop (part_in r) ts n (λ i d a l. none_if (meets (get_or ts i d).range r) (starting_from r.lo (ending_by r.hi (get_or ts i d)))
+      filter_map_drop (part_in r) ts n (λ i d a l. cond-false (meets (get_or ts i d).range r) (Some (starting_from r.lo (ending_by r.hi (get_or ts i d)))) None
       (and_right (is_below (get_or ts i d).range.lo r.hi) (is_below r.lo (get_or ts i d).range.hi) (ended r.lo (get_or ts i d) (ends.0 i d (omega arith) a))))
       ∙ filter_map_front (part_in r) (λ t. starting_from r.lo (ending_by r.hi t)) (drop n ts) m
       (λ i d a l.
       let t = get_or (drop n ts) i d in
-      some_if (meets t.range r) (starting_from r.lo (ending_by r.hi t)) (and_from (is_below t.range.lo r.hi) (is_below r.lo t.range.hi) (starts.0 i d (omega arith) a) (open_rest r.lo ts n ends i d l)))
+      cond-true (meets t.range r) (Some (starting_from r.lo (ending_by r.hi t))) None (and_from (is_below t.range.lo r.hi) (is_below r.lo t.range.hi) (starts.0 i d (omega arith) a) (open_rest r.lo ts n ends i d l)))
       (λ i d a l.
       let t = get_or (drop n ts) i d in
-      none_if (meets t.range r) (starting_from r.lo (ending_by r.hi t)) (and_left (is_below t.range.lo r.hi) (is_below r.lo t.range.hi) (starts.1 i d a l)))
+      cond-false (meets t.range r) (Some (starting_from r.lo (ending_by r.hi t))) None (and_left (is_below t.range.lo r.hi) (is_below r.lo t.range.hi) (starts.1 i d a l)))
 
 pub parts_from-rest : (at : List ℕ) (ts : List Tombstone) (n : ℕ) → IsPartitionPoint (λ t. ends_by at t ≡ true) (λ t. ends_by at t ≡ false) ts n → n ≤ length ts → parts_from at ts ≡ map (starting_from at) (take (length ts - n) (drop n ts))
 parts_from-rest at ts n split inside = parts_from-back at ts n split inside ∙ ap (map (starting_from at)) (sym (take_rest ts n))

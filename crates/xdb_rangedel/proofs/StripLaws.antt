@@ -6,12 +6,14 @@ use Rattle.std.proofs.Math.Numerals.{add-one}
 use Rattle.std.proofs.lemmas.List.Elements.{All-push, All-cons, All-weaker, All-from_recursion}
 use Rattle.std.proofs.lemmas.List.Sorted.{Contains-permutation, IsPermutation-sym}
 use Rattle.std.proofs.lemmas.List.Kept.{AllPairs-cons, Contains-dedup, Contains-from_dedup}
-use Rattle.std.specs.List.{All, AllPairs, dedup}
+use Rattle.std.specs.List.{All, AllPairs, dedup, prefix_len}
 use Rattle.std.specs.List.Sorted.{IsPartitionPoint, IsPartitionedBy, IsPermutation, IsStrictlySortedBy}
 use Rattle.std.specs.Ordering.{is_lt, nat_cmp, ordering_then}
-use Rattle.std.specs.Cmp.Lexicographic.{pointwise, nat_list_eq_equiv, texts_ties}
+use Rattle.std.specs.Cmp.Lexicographic.{pointwise, nat_list_eq_equiv, same_text}
 use Rattle.std.specs.Prelude.{nat_eq}
-use Rattle.std.specs.declared.cmp.Ordering.TheVariants.{Less, Equal, Greater}
+use Rattle.std.specs.declared.cmp.Ordering.TheVariants.{Less, Equal}
+use Rattle.std.specs.Cmp.{nat_cmp_is}
+use Rattle.std.proofs.lemmas.List.Sums.{prefix_len_is, prefix_len-le-length}
 use Rattle.xdb_key.specs.Order.{key_cmp, is_below, is_upto}
 use Rattle.xdb_key.specs.Bounds.{holds}
 use Rattle.xdb_key.specs.Entries.{Tombstone}
@@ -21,7 +23,6 @@ use Rattle.xdb_rangedel.specs.Pieces.{ends}
 use Rattle.xdb_rangedel.specs.Sweep.{IsRising, place_of, is_between, strip_of, FitsGaps, comes_first, lies_over}
 use Rattle.xdb_rangedel.specs.declared.sweep.Strip.{Strip}
 use Rattle.xdb_rangedel.proofs.MemberLaws.{Has-from_Contains, Contains-from_Has}
-use Rattle.xdb_rangedel.proofs.NewestLaws.{same_key-tells}
 use Rattle.xdb_rangedel.proofs.FragmentLaws.{AllPairs-head, AllPairs-tail}
 
 -- the ends of a longer list
@@ -54,19 +55,18 @@ rising-partitioned at bs rising = λ i j d le inside h. elim (cases_order i j) [
 
 -- the place of a bound
 
+place_of-is : (bs : List (List ℕ)) (at : List ℕ) → place_of bs at ≡ prefix_len (λ b. is_below b at) bs
+place_of-is [] at = refl
+place_of-is (b ∷ bs) at =
+    let one : suc (place_of bs at) ≡ 1 + prefix_len (λ x. is_below x at) bs = omega (arith, place_of-is bs at) in
+    ap (λ n. cond (is_below b at) n 0) one
+
 pub place_of-split : (at : List ℕ) (bs : List (List ℕ)) (n : ℕ) → n ≤ length bs → IsPartitionPoint (λ b. is_below b at ≡ true) (λ b. is_below b at ≡ false) bs n → n ≡ place_of bs at
-place_of-split at [] n inside split = omega arith
-place_of-split at (b ∷ bs) zero inside split = sym (ap (λ x. cond x (suc (place_of bs at)) 0) (split.1 0 b (omega arith) (omega arith)))
-place_of-split at (b ∷ bs) (suc n) inside split =
-    ap suc (place_of-split at bs n (omega arith) ((λ k d a l. split.0 (suc k) d (omega arith) (omega arith)), (λ k d a l. split.1 (suc k) d (omega arith) (omega arith))))
-    ∙ sym (ap (λ x. cond x (suc (place_of bs at)) 0) (split.0 0 b (omega arith) (omega arith)))
+place_of-split at bs n inside split =
+    sym (place_of-is bs at ∙ prefix_len_is (λ b. is_below b at) bs n [] inside (λ k a. split.0 k [] (omega arith) a) (λ l. split.1 n [] (omega arith) l))
 
 pub place_of-inside : (bs : List (List ℕ)) (at : List ℕ) → place_of bs at ≤ length bs
-place_of-inside [] at = omega arith
-place_of-inside (b ∷ bs) at = elim (cases_Bool (is_below b at)) [
-  | inl h ↦ let e : place_of (b ∷ bs) at ≡ suc (place_of bs at) = ap (λ x. cond x (suc (place_of bs at)) 0) h in omega (arith, place_of-inside bs at)
-  | inr h ↦ let e : place_of (b ∷ bs) at ≡ 0 = ap (λ x. cond x (suc (place_of bs at)) 0) h in omega arith
-]
+place_of-inside bs at = omega (arith, place_of-is bs at, prefix_len-le-length (λ b. is_below b at) bs)
 
 -- what stands before its place is below, and what doesn't is not
 place_of-tells : (bs : List (List ℕ)) (at : List ℕ) (j : ℕ) (d : List ℕ) → IsRising bs → j < length bs → ltb j (place_of bs at) ≡ is_below (get_or bs j d) at
@@ -88,7 +88,7 @@ place_of-tells (b ∷ bs) at (suc j) d rising inside = elim (cases_Bool (is_belo
   above : (x y : List ℕ) → is_below x at ≡ false → is_below x y ≡ true → is_below y at ≡ false
   above x y h g = elim (cases_Bool (is_below y at)) [ inl e ↦ absurd (false≢true (sym h ∙ below_trans x y at g e)) | inr e ↦ e ]
 
-leb-not : (m n : ℕ) → leb m n ≡ not (ltb n m)
+pub leb-not : (m n : ℕ) → leb m n ≡ not (ltb n m)
 leb-not m n = elim (cases_lt n m) [
   | inl h ↦ lt-leb m n h ∙ sym (ap not (lt-ltb n m h))
   | inr h ↦ le-leb m n h ∙ sym (ap not (le-ltb n m h))
@@ -148,13 +148,10 @@ same_after_sort xs ys p = λ x. (
   (λ h. Has-from_Contains ys x (Contains-permutation xs ys x p (Contains-from_Has xs x h))),
 )
 
-equal_bytes : (x y : List ℕ) → pointwise nat_eq x y ≡ true → x ≡ y
-equal_bytes x y h = same_key-tells x y (sym (texts_ties x y) ∙ h)
-
 pub same_after_dedup : (xs ys zs : List (List ℕ)) → IsPermutation xs ys → zs ≡ dedup (pointwise nat_eq) ys → SameMembers zs xs
 same_after_dedup xs ys zs p e = λ x. (
   (λ h. (same_after_sort xs ys p x).0 (Has-from_Contains ys x (Contains-from_dedup (pointwise nat_eq) ys x (Contains-from_Has (dedup (pointwise nat_eq) ys) x (subst (λ l. Has l x) e h))))),
-  (λ h. subst (λ l. Has l x) (sym e) (Has-from_Contains (dedup (pointwise nat_eq) ys) x (Contains-dedup nat_list_eq_equiv equal_bytes ys x (Contains-from_Has ys x ((same_after_sort xs ys p x).1 h))))),
+  (λ h. subst (λ l. Has l x) (sym e) (Has-from_Contains (dedup (pointwise nat_eq) ys) x (Contains-dedup nat_list_eq_equiv (λ a b g. same_text a b (sym g)) ys x (Contains-from_Has ys x ((same_after_sort xs ys p x).1 h))))),
 )
 
 -- strips in order
@@ -186,19 +183,13 @@ first_trans a b c p q = elim (first_tells a b p) [
   ]
 ]
 
-nat_cmp-less : (m n : ℕ) → m < n → nat_cmp m n ≡ Less
-nat_cmp-less m n h = ap (λ b. cond b Less (cond (eqb m n) Equal Greater)) (lt-ltb m n h)
-
-nat_cmp-equal : (m n : ℕ) → m ≡ n → nat_cmp m n ≡ Equal
-nat_cmp-equal m n e = ap (λ b. cond b Less (cond (eqb m n) Equal Greater)) (le-ltb m n (omega arith)) ∙ ap (λ b. cond b Equal Greater) (eq-eqb m n e)
-
 not_less_first : (a b : Strip) → is_lt (ordering_then (nat_cmp a.number.0 b.number.0) (ordering_then (nat_cmp b.from a.from) (nat_cmp b.to a.to))) ≡ false → comes_first a b ≡ true
 not_less_first a b h = elim (cases_order a.number.0 b.number.0) [
   | inl e ↦ elim (cases_lt b.from a.from) [
-    | inl less ↦ absurd (false≢true (sym h ∙ ap (λ r. is_lt (ordering_then r (ordering_then (nat_cmp b.from a.from) (nat_cmp b.to a.to)))) (nat_cmp-equal a.number.0 b.number.0 e) ∙ ap (λ r. is_lt (ordering_then r (nat_cmp b.to a.to))) (nat_cmp-less b.from a.from less)))
+    | inl less ↦ absurd (false≢true (sym h ∙ ap (λ r. is_lt (ordering_then r (ordering_then (nat_cmp b.from a.from) (nat_cmp b.to a.to)))) (sym (nat_cmp_is a.number.0 b.number.0 Equal e)) ∙ ap (λ r. is_lt (ordering_then r (nat_cmp b.to a.to))) (sym (nat_cmp_is b.from a.from Less less))))
     | inr le ↦ first_level a b (sym e) le
   ]
-  | inr (inl less) ↦ absurd (false≢true (sym h ∙ ap (λ r. is_lt (ordering_then r (ordering_then (nat_cmp b.from a.from) (nat_cmp b.to a.to)))) (nat_cmp-less a.number.0 b.number.0 less)))
+  | inr (inl less) ↦ absurd (false≢true (sym h ∙ ap (λ r. is_lt (ordering_then r (ordering_then (nat_cmp b.from a.from) (nat_cmp b.to a.to)))) (sym (nat_cmp_is a.number.0 b.number.0 Less less))))
   | inr (inr more) ↦ first_below a b more
 ]
 

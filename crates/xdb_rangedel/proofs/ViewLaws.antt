@@ -12,7 +12,7 @@ use Rattle.xdb_rangedel.specs.View.{within, restricted}
 use Rattle.xdb_rangedel.specs.Layers.{IsDrawn}
 use Rattle.xdb_rangedel.proofs.MemberLaws.{Has-from_filter_map}
 use Rattle.xdb_rangedel.proofs.NewestLaws.{same_key-tells}
-use Rattle.xdb_rangedel.proofs.CoverLaws.{holds-part_in, meets-from_held}
+use Rattle.xdb_rangedel.proofs.CoverLaws.{holds-part_in, meets-from_held, guarded, guarded_none, none-cond}
 
 abbrev mark_in : ℕ → List ℕ → Option Item → Option Mark
 mark_in limit k None = None
@@ -27,10 +27,6 @@ other_key : (h : Bool) (i : Item) (limit : ℕ) (k : List ℕ) → is_seen limit
 other_key true i limit k e = refl
 other_key false i limit k e = refl
 
-none_cond : (h : Bool) → ◌≡◌ {A = Option Mark} None (cond h None None)
-none_cond true = refl
-none_cond false = refl
-
 mark-within_entry : (r : Bounds) (key : List ℕ) (seq : ℕ) (v : Option (List ℕ)) (limit : ℕ) (k : List ℕ) → mark_in limit k (within r (entry key seq v)) ≡ cond (holds r k) (mark_at limit k (entry key seq v)) None
 mark-within_entry r key seq v limit k = elim (cases_Bool (same_key key k)) [
   | inl e ↦ kept (holds r key) (holds r k) (ap (holds r) (same_key-tells key k e))
@@ -41,17 +37,8 @@ mark-within_entry r key seq v limit k = elim (cases_Bool (same_key key k)) [
   kept false h e = ap (λ b. cond b (mark_at limit k (entry key seq v)) None) e
 
   dropped : (g : Bool) → mark_at limit k (entry key seq v) ≡ None → mark_in limit k (cond g (Some (entry key seq v)) None) ≡ cond (holds r k) (mark_at limit k (entry key seq v)) None
-  dropped true e = e ∙ none_cond (holds r k) ∙ ap (λ o. cond (holds r k) o None) (sym e)
-  dropped false e = none_cond (holds r k) ∙ ap (λ o. cond (holds r k) o None) (sym e)
-
-guarded : (h g b : Bool) (m : Mark) → cond ((h && g) && b) (Some m) None ≡ cond h (cond (g && b) (Some m) None) None
-guarded true g b m = refl
-guarded false g b m = refl
-
-guarded_none : (h g b : Bool) (m : Mark) → (h ≡ true → g ≡ true → ⊥) → ◌≡◌ {A = Option Mark} None (cond h (cond (g && b) (Some m) None) None)
-guarded_none true true b m not_both = absurd (not_both refl refl)
-guarded_none true false b m not_both = refl
-guarded_none false g b m not_both = refl
+  dropped true e = e ∙ none-cond (holds r k) ∙ ap (λ o. cond (holds r k) o None) (sym e)
+  dropped false e = none-cond (holds r k) ∙ ap (λ o. cond (holds r k) o None) (sym e)
 
 mark-within_span : (r : Bounds) (t : Tombstone) (limit : ℕ) (k : List ℕ) → mark_in limit k (within r (span t)) ≡ cond (holds r k) (mark_at limit k (span t)) None
 mark-within_span r t limit k = elim (cases_Bool (meets t.range r)) [
@@ -70,7 +57,7 @@ newer-cond true a b = refl
 newer-cond false a b = refl
 
 pub newest-restricted : (r : Bounds) (c : List Item) (limit : ℕ) (k : List ℕ) → newest (restricted r c) limit k ≡ cond (holds r k) (newest c limit k) None
-newest-restricted r [] limit k = none_cond (holds r k)
+newest-restricted r [] limit k = none-cond (holds r k)
 newest-restricted r (i ∷ c) limit k =
     newest-cons_option (within r i) (restricted r c) limit k
     ∙ ap (λ o. newer o (newest (restricted r c) limit k)) (mark-within r i limit k)

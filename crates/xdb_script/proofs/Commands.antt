@@ -3,7 +3,7 @@ use Rattle.std.proofs.Common.{◌≡◌, ℕ, ◌-◌, ◌^◌, Bool, true, fals
 use Rattle.std.specs.Fmt.{decimal}
 use Rattle.std.specs.List.{list_all, flat_map}
 use Rattle.std.proofs.lemmas.Bool.{and_parts, and_from, leb-true, lt-ltb, true≢false}
-use Rattle.std.proofs.lemmas.List.{length-map}
+use Rattle.std.proofs.lemmas.List.{length-map, map-id}
 use Rattle.xdb_key.proofs.ReadingLaws.{bind_ok, chosen}
 use Rattle.xdb_key.specs.Bounds.{Bounds}
 use Rattle.xdb_key.specs.Name.{is_name}
@@ -287,10 +287,6 @@ some-pair-is (Some p) span e =
     let range = pair-is p a.0 a.1 in
     subst (λ x. (excise_list (Some p) ≡ excise_words x) × (span_fits x ≡ true)) (ok_is (Some a.0) span a.2) (ap (λ q. codes "excise" ∷ q.0 ∷ q.1 ∷ []) range.0, range.1)
 
-map-same : {A : Type 0} (xs : List A) → map (λ x. x) xs ≡ xs
-map-same [] = refl
-map-same (x ∷ xs) = ap (λ ys. x ∷ ys) (map-same xs)
-
 load-is : (by : Option By) → by_client by ≡ true → (words : List (List ℕ)) (c : Cmd) → load_read words ≡ Ok c → ReadsCmd by false (codes "load" ∷ words) c
 load-is by h [] c e = cc
 load-is by h (w ∷ words) c e =
@@ -303,7 +299,7 @@ load-is by h (w ∷ words) c e =
     let few = few-is 0 16 up.0 f.0 f.1 in
     let name = name-is w n.0 n.1 in
     let all = all-is name_read (λ y. y) is_name name-is f.0 t.0 t.1 in
-    let same : f.0 ≡ t.0 = all.0 ∙ map-same t.0 in
+    let same : f.0 ≡ t.0 = all.0 ∙ map-id t.0 in
     let span = some-pair-is x.0 s.0 s.1 in
     let front : up.0 ≡ t.0 = few.0 ∙ same in
     let back : up.1 ≡ excise_words s.0 = excise-is up.1 x.0 (up-starts words) x.1 ∙ span.0 in

@@ -1,9 +1,10 @@
 -- Lines: what is read is spelled so and keeps the rules, and such a line is read.
-use Rattle.std.proofs.Common.{◌≡◌, ℕ, ◌^◌, ◌≤◌, Bool, true, false, cond, not, ◌&&◌, ◌||◌, eqb, leb, ltb, List, [], ◌∷◌, ◌++◌, length, Option, Some, None, Result, Ok, Err, refl, sym, ap, subst, ◌∙◌, inl, inr, arith, codes}
+use Rattle.std.proofs.Common.{◌≡◌, ℕ, ◌^◌, ◌≤◌, Bool, true, false, cond, not, ◌&&◌, eqb, leb, ltb, List, [], ◌∷◌, ◌++◌, length, Option, Some, None, Result, Ok, Err, refl, sym, ap, subst, ◌∙◌, inl, inr, arith, codes}
 use Rattle.std.specs.Fmt.{decimal}
 use Rattle.std.specs.List.{list_all, flat_map}
-use Rattle.std.proofs.lemmas.Bool.{and_parts, and_from, leb-true, le-leb, ltb-true, eqb-true, not-false, false≢true}
+use Rattle.std.proofs.lemmas.Bool.{and_parts, and_from, leb-true, le-leb, ltb-true, eqb-true, not-false, false≢true, not-true}
 use Rattle.std.proofs.lemmas.List.Folds.{list_all-append}
+use Rattle.std.proofs.Math.Bool.{or-false}
 use Rattle.xdb_key.proofs.ReadingLaws.{bind_ok, guard_ok, chosen}
 use Rattle.xdb_key.specs.Bounds.{Bounds}
 use Rattle.xdb_key.specs.Name.{is_name}
@@ -98,13 +99,9 @@ record ReadsLine (form : ScriptForm) (by : Option By) (words : List (List ℕ)) 
   suited : (tables : List TableOps) → tables_stand tables c ≡ true → batch_fits c ≡ true → suits tables by c ≡ true
   in_form : (number : ℕ) → suits_script form (line_of number by c) ≡ true
 
-parted-not : (p : Bool) → (not p || false) ≡ true → p ≡ false
-parted-not true h = absurd (false≢true h)
-parted-not false h = refl
-
 client-in-form : (form : ScriptForm) (n number : ℕ) (v : ClientVerb) (c : Cmd) → is_client (Client n) ≡ true → is_verb_in form v ≡ true → (is_parted v ≡ false → is_for_workers c ≡ true) → suits_script form (line_of number (Some (Client n)) c) ≡ true
 client-in-form Run n number v c client verbed workers = refl
-client-in-form Threads n number v c client verbed workers = and_from _ _ client (workers (parted-not (is_parted v) verbed))
+client-in-form Threads n number v c client verbed workers = and_from _ _ client (workers (not-true (is_parted v) (sym (or-false (not (is_parted v))) ∙ verbed)))
 
 client-line-is : (form : ScriptForm) (n : ℕ) → is_client (Client n) ≡ true → (words : List (List ℕ)) (c : Cmd) → client_line form words ≡ Ok c → ReadsLine form (Some (Client n)) words c
 client-line-is form n client [] c e = cc

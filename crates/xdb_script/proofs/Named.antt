@@ -1,10 +1,12 @@
 -- Tables by their names: a rule on tables asks for names alone.
-use Rattle.std.proofs.Common.{◌≡◌, ℕ, Bool, true, false, cond, eqb, not, ◌&&◌, ◌||◌, List, [], ◌∷◌, length, map, Option, Some, None, Result, Ok, Err, refl, sym, ap, ◌∙◌, is_some, is_none}
+use Rattle.std.proofs.Common.{◌≡◌, ℕ, Bool, true, false, cond, eqb, not, ◌&&◌, ◌||◌, List, [], ◌∷◌, length, map, Option, Some, Result, Ok, Err, refl, sym, ap, ◌∙◌, is_some, is_none}
 use Rattle.std.specs.Borrow.{Bor}
 use Rattle.std.specs.List.{flat_map, list_all}
 use Rattle.std.specs.Ordering.{eq_by_cmp}
 use Rattle.std.proofs.lemmas.Bool.{and_from, true≢false}
 use Rattle.std.proofs.lemmas.List.Folds.{list_all-map}
+use Rattle.std.proofs.lemmas.Cmp.{eq_by_cmp_equiv}
+use Rattle.xdb_key.proofs.OrderLaws.{key_total}
 use Rattle.xdb_key.specs.Ops.{disorder, is_table}
 use Rattle.xdb_key.specs.Order.{key_cmp}
 use Rattle.xdb_key.specs.Reading.{◌>>=◌}
@@ -15,7 +17,6 @@ use Rattle.xdb_key.specs.declared.op.Op.{Op}
 use Rattle.xdb_plain.specs.declared.act.By.{By}
 use Rattle.xdb_plain.specs.declared.script.Cmd.{Cmd}
 use Rattle.xdb_plain.specs.declared.script.Cmd.TheVariants as cmd
-use Rattle.xdb_script.proofs.Words.{same-tells, same-itself}
 use Rattle.xdb_script.proofs.Parts.{ops-is}
 use Rattle.xdb_script.specs.Answers.{IsDefect, as_tables, has_name, ranged, rises, ruled, texts}
 use Rattle.xdb_script.specs.Drafts.{drafted}
@@ -31,13 +32,7 @@ use Rattle.xdb_script.specs.declared.error.Why.TheVariants as why
 
 -- two words are one, whichever stands first
 pub same-turned : (a b : List ℕ) → eq_by_cmp key_cmp a b ≡ eq_by_cmp key_cmp b a
-same-turned a b = by (eq_by_cmp key_cmp a b) (eq_by_cmp key_cmp b a) refl refl
-  where
-    by : (t u : Bool) → eq_by_cmp key_cmp a b ≡ t → eq_by_cmp key_cmp b a ≡ u → t ≡ u
-    by true true e f = refl
-    by false false e f = refl
-    by true false e f = sym (same-itself b) ∙ ap (eq_by_cmp key_cmp b) (sym (same-tells a b e)) ∙ f
-    by false true e f = sym e ∙ ap (eq_by_cmp key_cmp a) (same-tells b a f) ∙ same-itself a
+same-turned a b = (eq_by_cmp_equiv key_total).symm a b
 
 found-by : (n name : List ℕ) (tables : List TableOps) (more t u : Bool) → t ≡ u → is_some (found_table name tables) ≡ more → is_some (cond t (Some (table_ops n [])) (found_table name tables)) ≡ (u || more)
 found-by n name tables more true true e h = refl
@@ -59,11 +54,10 @@ defined-same a b [] h = refl
 defined-same a b (n ∷ names) h = λ i. h.same n i && defined-same a b names h i
 
 pub none_not : {A : Type 0} (o : Option A) → is_none o ≡ not (is_some o)
-none_not None = refl
-none_not (Some x) = refl
+none_not o = refl
 
 stand-same : (a b : List TableOps) (c : Cmd) → SameNames a b → tables_stand a c ≡ tables_stand b c
-stand-same a b (cmd.Table table) h = none_not (found_table table.name a) ∙ ap not (h.same table.name) ∙ sym (none_not (found_table table.name b))
+stand-same a b (cmd.Table table) h = ap not (h.same table.name)
 stand-same a b (cmd.Load load names span) h = defined-same a b names h
 stand-same a b _ h = refl
 
@@ -153,7 +147,7 @@ table-is-read word words parts name ops h =
 pub table-ruled : (names : List (List ℕ)) (word : List ℕ) (words : List (List ℕ)) (parts : List (List (List ℕ))) (name : List ℕ) (ops : List Op) (t u : Bool) → TableRead word words parts name ops → is_some (found_table name (as_tables names)) ≡ t → is_none (disorder ops) ≡ u → ruled names (named_table_read word words) ≡ cond (not (not t)) (Err why.Table) (cond (not u) (Err why.Order) (Ok (cmd.Table (table_ops name ops))))
 table-ruled names word words parts name ops t u h found order =
     let c = cmd.Table (table_ops name ops) in
-    let stand : tables_stand (as_tables names) c ≡ not t = none_not (found_table name (as_tables names)) ∙ ap not found in
+    let stand : tables_stand (as_tables names) c ≡ not t = ap not found in
     ap (ruled names) (table-is-read word words parts name ops h)
     ∙ ap (λ x. cond (not x) (Err why.Range) (cond (not (tables_stand (as_tables names) c)) (Err why.Table) (cond (not (points_rise c)) (Err why.Order) (Ok c)))) h.rise
     ∙ ap (λ x. cond (not x) (Err why.Table) (cond (not (points_rise c)) (Err why.Order) (Ok c))) stand
@@ -174,7 +168,7 @@ table_of word words parts seen name drafts ops shape same named read risen =
     }
 
 pub in_order : (seen ops : List Op) (o : Option ℕ) (b : Bool) → o ≡ disorder seen → seen ≡ ops → b ≡ is_some o → is_none (disorder ops) ≡ not b
-in_order seen ops o b is same some = ap (λ xs. is_none (disorder xs)) (sym same) ∙ none_not (disorder seen) ∙ ap (λ x. not (is_some x)) (sym is) ∙ ap not (sym some)
+in_order seen ops o b is same some = ap (λ xs. is_none (disorder xs)) (sym same) ∙ ap (λ x. not (is_some x)) (sym is) ∙ ap not (sym some)
 
 pub spoken : (names : List (List ℕ)) (form : ScriptForm) (number : ℕ) (who : List ℕ) (words : List (List ℕ)) (by : Option By) → who_read form who ≡ Ok by → spoken_read form (as_tables names) number who words ≡ (ruled names (cmd_read form by words) >>= λ x. Ok (line_of number by x))
 spoken names form number who words by e =

@@ -3,7 +3,7 @@ use Rattle.std.proofs.Common.{◌≡◌, ℕ, ◌≤◌, Bool, true, false, cond
 use Rattle.std.specs.List.{list_all, flat_map, slice_split, onto_first}
 use Rattle.std.proofs.lemmas.Bool.{and_parts, and_from, le-leb, leb-true, not-true, not_from_false, cond-true}
 use Rattle.std.proofs.lemmas.List.{length-map}
-use Rattle.std.proofs.lemmas.List.Splits.{slice_split-cons_yes, slice_split-cons_no}
+use Rattle.std.proofs.lemmas.List.Splits.{slice_split-cons_yes, slice_split-cons_no, length-slice_split}
 use Rattle.xdb_key.proofs.ReadingLaws.{bind_ok, chosen}
 use Rattle.xdb_key.specs.Bounds.{Bounds, bounds}
 use Rattle.xdb_key.specs.Reading.{◌>>=◌}
@@ -141,13 +141,7 @@ joined [] = []
 joined (part ∷ parts) = part ++ flat_map (λ next. codes ";" ∷ next) parts
 
 split-some : (words : List (List ℕ)) → 1 ≤ length (slice_split is_semicolon words)
-split-some [] = omega arith
-split-some (w ∷ words) = by (is_semicolon w) (slice_split is_semicolon words)
-  where
-    by : (t : Bool) (parts : List (List (List ℕ))) → 1 ≤ length (cond t ([] ∷ parts) (onto_first w parts))
-    by true parts = omega arith
-    by false [] = omega arith
-    by false (part ∷ parts) = omega arith
+split-some words = omega (arith, length-slice_split is_semicolon words)
 
 joined-by : (w : List ℕ) (parts : List (List (List ℕ))) (t : Bool) → is_semicolon w ≡ t → 1 ≤ length parts → joined (cond t ([] ∷ parts) (onto_first w parts)) ≡ w ∷ joined parts
 unfolding joined

@@ -2,17 +2,10 @@
 use Rattle.std.proofs.Common.{◌≡◌, ℕ, Bool, true, false, cond, not, ◌&&◌, eqb, leb, List, [], ◌∷◌, refl, sym, ap, subst, ◌∙◌, arith}
 use Rattle.std.specs.List.{list_all, onto_first}
 use Rattle.std.proofs.lemmas.Bool.{eqb-true, eqb-false, leb-true, leb-false}
+use Rattle.std.proofs.Math.Bool.{and-false, and_assoc}
 use Rattle.xdb_script.specs.Defects.{is_printable, spaced_behind, is_well_spaced}
 use Rattle.xdb_script.specs.Grammar.{is_space, words_in}
 use Rattle.xdb_script.specs.Reading.{is_visible, is_clean}
-
-and-false : (b : Bool) → (b && false) ≡ false
-and-false true = refl
-and-false false = refl
-
-and-assoc : (a b c : Bool) → ((a && b) && c) ≡ (a && (b && c))
-and-assoc true b c = refl
-and-assoc false b c = refl
 
 clean-some : (b : ℕ) (bs : List ℕ) → is_clean (b ∷ bs) ≡ (is_visible b && list_all is_visible bs)
 clean-some b bs = refl
@@ -54,9 +47,9 @@ letter-more b bs parts other h =
     let behind : (s : Bool) → spaced_behind s (b ∷ bs) ≡ spaced_behind false bs = λ s. ap (λ t. cond t (not s && spaced_behind true bs) (spaced_behind false bs)) other in
     let all : (s : Bool) → (list_all is_printable (b ∷ bs) && spaced_behind s (b ∷ bs)) ≡ ((is_visible b && list_all is_visible h.first) && list_all is_clean h.others) =
     λ s. ap (λ t. (is_printable b && list_all is_printable bs) && t) (behind s)
-    ∙ and-assoc (is_printable b) (list_all is_printable bs) (spaced_behind false bs)
+    ∙ and_assoc (is_printable b) (list_all is_printable bs) (spaced_behind false bs)
     ∙ (λ i. visible-is b other i && h.behind_letter i)
-    ∙ sym (and-assoc (is_visible b) (list_all is_visible h.first) (list_all is_clean h.others)) in
+    ∙ sym (and_assoc (is_visible b) (list_all is_visible h.first) (list_all is_clean h.others)) in
     record { first = b ∷ h.first; others = h.others; are = ap (onto_first b) h.are; behind_space = all true; behind_letter = all false }
 
 more-by : (b : ℕ) (bs : List ℕ) (parts : List (List ℕ)) (t : Bool) → eqb b 32 ≡ t → AreSpaced bs parts → AreSpaced (b ∷ bs) (cond t ([] ∷ parts) (onto_first b parts))

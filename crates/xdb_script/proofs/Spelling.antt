@@ -1,9 +1,9 @@
 -- Letters read one byte after the other: what was read so far goes on with what is left.
-use Rattle.std.proofs.Common.{◌≡◌, ◌≢◌, ℕ, suc, ◌<◌, true, false, eqb, ltb, List, [], ◌∷◌, ◌++◌, length, append_assoc, append-nil, refl, sym, ap, ◌∙◌, arith, codes}
+use Rattle.std.proofs.Common.{◌≡◌, ◌≢◌, ℕ, suc, ◌<◌, true, false, eqb, ltb, List, [], ◌∷◌, ◌++◌, length, append_assoc, append-nil, refl, sym, ap, ◌∙◌, codes}
 use Rattle.std.specs.List.{flat_map, list_all}
 use Rattle.std.proofs.lemmas.Bool.{and_parts, and_from, lt-ltb, ltb-true, false_from_ne_true, cond-false, eqb-true, false≢true}
 use Rattle.std.proofs.lemmas.Grind.{flat_map-append}
-use Rattle.std.proofs.lemmas.List.{append_cancel_left}
+use Rattle.std.proofs.lemmas.List.{append_cancel_left, nil_from_length}
 use Rattle.std.proofs.lemmas.List.Folds.{list_all-append}
 use Rattle.xdb_key.specs.Reading.{AreBytes}
 use Rattle.xdb_plain.specs.Words.{is_plain, byte_word, string_word}
@@ -103,5 +103,4 @@ pub some_left : (rest : List ℕ) → eqb (length rest) 0 ≡ false → rest ≢
 some_left rest h e = false≢true (sym h ∙ ap (λ xs. eqb (length xs) 0) e)
 
 pub none_left : (rest : List ℕ) → eqb (length rest) 0 ≡ true → rest ≡ []
-none_left [] h = refl
-none_left (b ∷ rest) h = let none = eqb-true (length (b ∷ rest)) 0 h in absurd (omega arith)
+none_left rest h = nil_from_length rest (eqb-true (length rest) 0 h)

@@ -5,6 +5,7 @@ use Rattle.std.specs.Ordering.{eq_by_cmp}
 use Rattle.std.specs.List.{enumerate_from, list_all, slice_split}
 use Rattle.std.proofs.lemmas.Bool.{le-ltb, cond-false, lt-ltb, cond-true}
 use Rattle.std.proofs.lemmas.List.{drop_more, drop_all, length-append}
+use Rattle.std.proofs.Math.Bool.{or_comm}
 use Rattle.xdb_key.proofs.ReadingLaws.{bind_ok}
 use Rattle.xdb_key.specs.Order.{key_cmp}
 use Rattle.xdb_key.specs.Reading.{◌>>=◌}
@@ -198,15 +199,9 @@ loop_ends form bytes yielded names lines whole so =
 
 -- ---- names that are known behind a command
 
-either : (t b : Bool) → (t || b) ≡ (b || t)
-either true true = refl
-either true false = refl
-either false true = refl
-either false false = refl
-
 pub table-known : (old new : List (List ℕ)) (c : Cmd) (table : TableOps) (name : List ℕ) → c ≡ cmd.Table table → name ≡ table.name → ((n : List ℕ) → has_name new n ≡ (eq_by_cmp key_cmp name n || has_name old n)) → (n : List ℕ) → has_name new n ≡ is_some (found_table n (tables_below (as_tables old) c))
 table-known old new c table name is same h n =
-    h n ∙ either (eq_by_cmp key_cmp name n) (has_name old n)
+    h n ∙ or_comm (eq_by_cmp key_cmp name n) (has_name old n)
     ∙ (λ i. sym (found_named old n) i || eq_by_cmp key_cmp (same i) n)
     ∙ sym (found-push n (as_tables old) table)
     ∙ ap (λ x. is_some (found_table n (tables_below (as_tables old) x))) (sym is)

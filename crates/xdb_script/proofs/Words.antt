@@ -3,10 +3,8 @@ use Rattle.std.proofs.Common.{◌≡◌, ℕ, ◌+◌, ◌*◌, ◌/◌, ◌%◌
 use Rattle.std.specs.List.{list_all, flat_map, find}
 use Rattle.std.specs.Fmt.{decimal}
 use Rattle.std.specs.Str.Parse.{digits_value}
-use Rattle.std.specs.declared.cmp.Ordering.{Ordering}
-use Rattle.std.specs.declared.cmp.Ordering.TheVariants.{Less, Equal, Greater}
 use Rattle.std.specs.Ordering.{is_eq}
-use Rattle.std.specs.Cmp.{tied_itself}
+use Rattle.std.specs.Cmp.{tied_itself, Equal-is}
 use Rattle.std.proofs.lemmas.Bool.{and_parts, and_from, ne_eqb, leb-true, le-leb, ltb-true, lt-ltb, le-ltb, false≢true, not-true, false_from_ne_true, or_parts, or_cases, cases_lt, agree_below_at, cond-true, cond-false}
 use Rattle.std.proofs.lemmas.Fmt.{decimal_is_IsNumeral_wide, decimal_by_steps_wide}
 use Rattle.std.proofs.lemmas.List.{length-append}
@@ -41,13 +39,8 @@ found_tells test (y ∷ ys) x e = elim (test y) as (λ t. test y ≡ t → cond 
   | false ↦ λ is e. found_tells test ys x e
 ] refl e
 
-eq-tells : (r : Ordering) → is_eq r ≡ true → r ≡ Equal
-eq-tells Less h = absurd (false≢true h)
-eq-tells Equal h = refl
-eq-tells Greater h = absurd (false≢true h)
-
 pub same-tells : (a b : List ℕ) → same_word a b ≡ true → a ≡ b
-same-tells a b h = key_exact a b (eq-tells (key_cmp a b) h)
+same-tells a b h = key_exact a b ((Equal-is (key_cmp a b)).0 h)
 
 pub same-itself : (a : List ℕ) → same_word a a ≡ true
 same-itself a = ap is_eq (tied_itself key_total a)

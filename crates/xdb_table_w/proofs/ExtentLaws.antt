@@ -1,12 +1,13 @@
 -- The extent of rows in order comes from the first and the last of them.
-use Rattle.std.proofs.Common.{◌≡◌, ℕ, ◌+◌, ◌≤◌, Bool, true, false, not, ◌&&◌, ◌||◌, cond, List, [], ◌∷◌, ◌++◌, length, map, Option, Some, None, IsTrue, refl, sym, ap, ◌∙◌, subst, arith, inl, inr}
+use Rattle.std.proofs.Common.{◌≡◌, ℕ, ◌+◌, ◌≤◌, Bool, true, false, ◌&&◌, ◌||◌, cond, List, [], ◌∷◌, ◌++◌, length, map, Option, Some, None, IsTrue, refl, sym, subst, arith, inl, inr}
 use Rattle.std.specs.List.{AllByRecursion}
 use Rattle.std.specs.Option.{option_map}
 use Rattle.std.specs.declared.cmp.Ordering.{Ordering}
 use Rattle.std.specs.declared.cmp.Ordering.TheVariants.{Less, Equal, Greater}
 use Rattle.std.specs.Ordering.{nat_cmp, is_lt, is_le, is_eq, ordering_then}
-use Rattle.std.proofs.lemmas.Bool.{and_parts, false≢true}
-use Rattle.xdb_key.proofs.OrderLaws.{key_exact, upto_trans, upto_below, below_upto, upto_from_below, upto-itself, upto-not_below, key-below-successor}
+use Rattle.std.proofs.lemmas.Bool.{and_parts, false≢true, and_from}
+use Rattle.std.specs.Cmp.{Equal-is}
+use Rattle.xdb_key.proofs.OrderLaws.{key_exact, upto_trans, upto_below, below_upto, upto_from_below, upto-itself, key-below-successor, lesser_upto_first, lesser_upto_second, first_upto_greater, second_upto_greater}
 use Rattle.xdb_key.specs.Bounds.{bounds, holds, covers, successor}
 use Rattle.xdb_key.specs.Entries.{Reach, reach}
 use Rattle.xdb_key.specs.Order.{key_cmp, is_below, is_upto}
@@ -26,11 +27,6 @@ then_le : (r s : Ordering) → is_lt (ordering_then r s) ≡ true → is_le r �
 then_le Less s h = refl
 then_le Equal s h = refl
 then_le Greater s h = absurd (false≢true h)
-
-eq-tells : (r : Ordering) → is_eq r ≡ true → r ≡ Equal
-eq-tells Less h = absurd (false≢true h)
-eq-tells Equal h = refl
-eq-tells Greater h = absurd (false≢true h)
 
 user_rises : (a b : Row) → precedes a.key b.key ≡ true → is_upto (user a) (user b) ≡ true
 user_rises a b h = then_le (key_cmp (user a) (user b)) (nat_cmp (trailer_part b.key) (trailer_part a.key)) h
@@ -54,7 +50,7 @@ end_step a b h =
     let some = span_some b (and_parts (suits Spans b) (precedes a.key b.key) parts.0).0 in
     end_by a b (is_eq (key_cmp (user a) (user b)) && is_eq (key_cmp (end a) (end b))) (is_upto (end a) (user b)) parts.1
     (λ e. let same = (and_parts (is_eq (key_cmp (user a) (user b))) (is_eq (key_cmp (end a) (end b))) e).1 in
-    subst (λ x. is_upto (end a) x ≡ true) (key_exact (end a) (end b) (eq-tells _ same)) (upto-itself (end a)))
+    subst (λ x. is_upto (end a) x ≡ true) (key_exact (end a) (end b) ((Equal-is (key_cmp (end a) (end b))).0 same)) (upto-itself (end a)))
     (λ e. upto_trans (end a) (user b) (end b) e (upto_from_below (user b) (end b) some))
 
 -- ---- the last row
@@ -95,46 +91,24 @@ has_end q (r ∷ rs) = inr (has_end r rs)
 
 -- ---- inside
 
-and_true : (a b : Bool) → a ≡ true → b ≡ true → (a && b) ≡ true
-and_true true b h g = g
-and_true false b h g = h
-
 points_inside : (lo hi : List ℕ) (q : Row) (rs : List Row) → is_upto lo (user q) ≡ true → is_upto (successor (user (last_row q rs))) hi ≡ true → Follow Point (Some q) rs → AllByRecursion (λ r. IsTrue (holds (bounds lo hi) (user r))) (q ∷ rs)
 unfolding last_row
 points_inside lo hi q [] low high h =
     let below = below_upto (user q) (successor (user q)) hi (key-below-successor (user q)) high in
-    (and_true (is_upto lo (user q)) (is_below (user q) hi) low below, tt)
+    (and_from (is_upto lo (user q)) (is_below (user q) hi) low below, tt)
 points_inside lo hi q (r ∷ rs) low high h =
     let top = user (last_row r rs) in
     let upto = upto_trans (user q) (user r) top (point_step q r h.0) (point_last r rs h.1) in
     let below = below_upto (user q) (successor top) hi (upto_below (user q) top (successor top) upto (key-below-successor top)) high in
-    (and_true (is_upto lo (user q)) (is_below (user q) hi) low below, points_inside lo hi r rs (upto_trans lo (user q) (user r) low (point_step q r h.0)) high h.1)
+    (and_from (is_upto lo (user q)) (is_below (user q) hi) low below, points_inside lo hi r rs (upto_trans lo (user q) (user r) low (point_step q r h.0)) high h.1)
 
 spans_inside : (lo hi : List ℕ) (q : Row) (rs : List Row) → is_upto lo (user q) ≡ true → is_upto (end (last_row q rs)) hi ≡ true → Follow Spans (Some q) rs → AllByRecursion (λ r. IsTrue (covers (bounds lo hi) (bounds (user r) (end r)))) (q ∷ rs)
 unfolding last_row
-spans_inside lo hi q [] low high h = (and_true (is_upto lo (user q)) (is_upto (end q) hi) low high, tt)
+spans_inside lo hi q [] low high h = (and_from (is_upto lo (user q)) (is_upto (end q) hi) low high, tt)
 spans_inside lo hi q (r ∷ rs) low high h =
     let top = end (last_row r rs) in
     let upto = upto_trans (end q) (end r) top (end_step q r h.0) (end_last r rs h.1) in
-    (and_true (is_upto lo (user q)) (is_upto (end q) hi) low (upto_trans (end q) top hi upto high), spans_inside lo hi r rs (upto_trans lo (user q) (user r) low (span_step q r h.0)) high h.1)
-
--- ---- the lesser and the greater of two
-
-lesser_left : (a b : List ℕ) (t : Bool) → is_below a b ≡ t → is_upto (cond t a b) a ≡ true
-lesser_left a b true e = upto-itself a
-lesser_left a b false e = upto-not_below b a ∙ ap not e
-
-lesser_right : (a b : List ℕ) (t : Bool) → is_below a b ≡ t → is_upto (cond t a b) b ≡ true
-lesser_right a b true e = upto_from_below a b e
-lesser_right a b false e = upto-itself b
-
-greater_left : (a b : List ℕ) (t : Bool) → is_below a b ≡ t → is_upto a (cond t b a) ≡ true
-greater_left a b true e = upto_from_below a b e
-greater_left a b false e = upto-itself a
-
-greater_right : (a b : List ℕ) (t : Bool) → is_below a b ≡ t → is_upto b (cond t b a) ≡ true
-greater_right a b true e = upto-itself b
-greater_right a b false e = upto-not_below b a ∙ ap not e
+    (and_from (is_upto lo (user q)) (is_upto (end q) hi) low (upto_trans (end q) top hi upto high), spans_inside lo hi r rs (upto_trans lo (user q) (user r) low (span_step q r h.0)) high h.1)
 
 one_of : (xs : List (List ℕ)) (t : Bool) (a b : List ℕ) → Has xs a → Has xs b → Has xs (cond t a b)
 one_of xs true a b h g = h
@@ -185,8 +159,8 @@ points_and_spans p ps q rs s h g n =
     let points = p ∷ ps in
     let spans = q ∷ rs in
     let made : IsExtent (content points spans) (reach (bounds lo hi) s.lo s.hi) = record {
-      hulls = points_inside lo hi p ps (lesser_left (user p) (user q) (is_below (user p) (user q)) refl) (greater_left top last (is_below top last) refl) h.1;
-      spans = spans_inside lo hi q rs (lesser_right (user p) (user q) (is_below (user p) (user q)) refl) (greater_right top last (is_below top last) refl) g.1;
+      hulls = points_inside lo hi p ps (lesser_upto_second (user q) (user p)) (first_upto_greater top last) h.1;
+      spans = spans_inside lo hi q rs (lesser_upto_first (user q) (user p)) (second_upto_greater top last) g.1;
       lo = one_of (map user points ++ map user spans) (is_below (user p) (user q)) (user p) (user q) (inl refl) (Has-append_right (map user points) (map user spans) (user q) (inl refl));
       hi = one_of (map (λ r. successor (user r)) points ++ map end spans) (is_below top last) last top (Has-append_right (map (λ r. successor (user r)) points) (map end spans) last (has_end q rs)) (Has-append_left (map (λ r. successor (user r)) points) (map end spans) top (has_user p ps));
       between = n.0;

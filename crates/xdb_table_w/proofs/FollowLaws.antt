@@ -1,7 +1,7 @@
 -- Rows in order: their parts, and the index made of them.
-use Rattle.std.proofs.Common.{◌≡◌, ℕ, ◌+◌, ◌^◌, ◌<◌, ◌≤◌, Bool, true, false, ◌&&◌, List, [], ◌∷◌, ◌++◌, length, Option, Some, None, Ok, refl, sym, ap, ◌∙◌, subst, arith}
+use Rattle.std.proofs.Common.{◌≡◌, ℕ, ◌+◌, ◌^◌, ◌<◌, ◌≤◌, true, List, [], ◌∷◌, ◌++◌, length, Option, Some, None, Ok, refl, sym, ap, ◌∙◌, subst, arith}
 use Rattle.std.specs.List.{AllByRecursion}
-use Rattle.std.proofs.lemmas.Bool.{and_parts}
+use Rattle.std.proofs.lemmas.Bool.{and_parts, and_from}
 use Rattle.std.proofs.lemmas.List.{append-nil, length-append}
 use Rattle.std.proofs.lemmas.List.Concat.{flat_map-cons}
 use Rattle.xdb_key.proofs.VarintLaws.{varint_at-again}
@@ -36,19 +36,15 @@ pub follow_any : (kind : BlockKind) (last : Option Row) (xs : List Row) → Foll
 follow_any kind last [] h = tt
 follow_any kind last (r ∷ xs) h = (follows_suits kind last r h.0, h.1)
 
-and_true : (a b : Bool) → a ≡ true → b ≡ true → (a && b) ≡ true
-and_true true b h g = g
-and_true false b h g = h
-
 pub point_follows : (last : Option Row) (r : Row) → suits Point r ≡ true → goes_behind last r ≡ true → follows Point last r ≡ true
 point_follows None r fits behind = fits
-point_follows (Some last) r fits behind = and_true _ _ (and_true _ _ fits behind) refl
+point_follows (Some last) r fits behind = and_from _ _ (and_from _ _ fits behind) refl
 
 pub span_follows : (last : Option Row) (r : Row) → suits Spans r ≡ true → lies_behind last r ≡ true → follows Spans last r ≡ true
 span_follows None r fits behind = fits
 span_follows (Some last) r fits behind =
     let b = and_parts (precedes last.key r.key) (is_apart last r) behind in
-    and_true _ _ (and_true _ _ fits b.0) b.1
+    and_from _ _ (and_from _ _ fits b.0) b.1
 
 pub joined-cons : (b : List Row) (bs : List (List Row)) → joined (b ∷ bs) ≡ b ++ joined bs
 joined-cons b bs = flat_map-cons (λ (x : List Row). x) b bs
@@ -103,11 +99,11 @@ Tied None last = last ≡ None
 Tied (Some q) last = HasKey q.key last
 
 index_step : (q last : Option Row) (b : List Row) (value : List ℕ) → Tied q last → Follow Point last b → 1 ≤ length b → is_handle value ≡ true → follows Index q (row (last_key [] b) value) ≡ true
-index_step None last b value tied h some fits = and_true _ _ (last_point last b h some) fits
+index_step None last b value tied h some fits = and_from _ _ (last_point last b h some) fits
 index_step (Some q) None b value tied h some fits = absurd tied
 index_step (Some q) (Some l) b value tied h some fits =
     let before : precedes q.key (last_key [] b) ≡ true = ap (λ k. precedes k (last_key [] b)) (sym tied) ∙ precedes_last l b h some in
-    and_true _ _ (and_true _ _ (and_true _ _ (last_point (Some l) b h some) fits) before) refl
+    and_from _ _ (and_from _ _ (and_from _ _ (last_point (Some l) b h some) fits) before) refl
 
 index_follows : (interval at : ℕ) (q last : Option Row) (blocks : List (List Row)) → Tied q last → Follow Point last (joined blocks) → AllByRecursion (λ b. 1 ≤ length b) blocks → at + length (parts interval blocks) < 2 ^ 63
     → Follow Index q (index_from interval at blocks)

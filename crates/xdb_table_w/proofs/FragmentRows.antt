@@ -1,15 +1,16 @@
 -- Fragments as rows stand in the order of spans.
-use Rattle.std.proofs.Common.{◌≡◌, ℕ, suc, ◌^◌, ◌<◌, Bool, true, false, ◌&&◌, ◌||◌, ltb, cond, ◌==◌, List, [], ◌∷◌, ◌++◌, map, All, Some, None, IsTrue, refl, ap, ◌∙◌, arith, inl, inr, ◌⊎◌}
-use Rattle.std.specs.declared.cmp.Ordering.{Ordering}
-use Rattle.std.specs.declared.cmp.Ordering.TheVariants.{Less, Equal, Greater}
+use Rattle.std.proofs.Common.{◌≡◌, suc, ◌^◌, ◌<◌, true, ◌&&◌, ◌||◌, ltb, List, [], ◌∷◌, ◌++◌, map, All, Some, None, IsTrue, refl, ap, ◌∙◌, arith, inl, inr, sym}
+use Rattle.std.specs.declared.cmp.Ordering.TheVariants.{Less}
 use Rattle.std.specs.Ordering.{nat_cmp, is_lt, is_eq, eq_by_cmp, ordering_then}
 use Rattle.std.specs.List.{AllPairs}
-use Rattle.std.proofs.lemmas.Bool.{and_parts, ltb-true, lt-ltb, false≢true}
+use Rattle.std.proofs.lemmas.Bool.{and_parts, ltb-true, and_from, or_cases, or_left, or_right}
+use Rattle.std.specs.Cmp.{Equal-is, nat_cmp_is}
 use Rattle.xdb_key.proofs.OrderLaws.{below_upto}
 use Rattle.xdb_key.specs.Entries.{Tombstone}
 use Rattle.xdb_key.specs.Kinds.{trailer}
 use Rattle.xdb_key.specs.Order.{key_cmp, is_upto}
 use Rattle.xdb_key.specs.declared.op.Kind.TheVariants as kinds
+use Rattle.xdb_block.proofs.SeekLaws.{lt-tells}
 use Rattle.xdb_block.specs.Rows.{precedes, is_apart}
 use Rattle.xdb_rangedel.specs.Pieces.{precedes as span_precedes, is_ordered, AreFragments}
 use Rattle.xdb_table_w.specs.Content.{span_row, last_of, lies_behind}
@@ -34,32 +35,6 @@ unfolding last_span
 of_last P s [] t after h = (h 0 s (omega arith), h 1 s (omega arith))
 of_last P s (b ∷ bs) t after h = of_last P b bs t after (λ k d less. h (suc k) d (omega arith))
 
-or_cases : (a b : Bool) → (a || b) ≡ true → (a ≡ true) ⊎ (b ≡ true)
-or_cases true b h = inl refl
-or_cases false b h = inr h
-
-and_true : (a b : Bool) → a ≡ true → b ≡ true → (a && b) ≡ true
-and_true true b h g = g
-and_true false b h g = h
-
-or_left : (a b : Bool) → a ≡ true → (a || b) ≡ true
-or_left true b h = refl
-or_left false b h = absurd (false≢true h)
-
-or_right : (a b : Bool) → b ≡ true → (a || b) ≡ true
-or_right true b h = refl
-or_right false b h = h
-
-lt-tells : (r : Ordering) → is_lt r ≡ true → r ≡ Less
-lt-tells Less h = refl
-lt-tells Equal h = absurd (false≢true h)
-lt-tells Greater h = absurd (false≢true h)
-
-eq-tells : (r : Ordering) → is_eq r ≡ true → r ≡ Equal
-eq-tells Less h = absurd (false≢true h)
-eq-tells Equal h = refl
-eq-tells Greater h = absurd (false≢true h)
-
 -- the tests on rows, on spans
 row_precedes : (s t : Tombstone) → s.seq < 2 ^ 56 → t.seq < 2 ^ 56 → precedes (span_row s).key (span_row t).key ≡ is_lt (ordering_then (key_cmp s.range.lo t.range.lo) (nat_cmp (trailer t.seq kinds.SpanDel) (trailer s.seq kinds.SpanDel)))
 row_precedes s t small_s small_t =
@@ -69,9 +44,6 @@ row_apart : (s t : Tombstone) → is_apart (span_row s) (span_row t) ≡ ((is_eq
 row_apart s t =
     λ i. (is_eq (key_cmp (internal-user s.range.lo s.seq kinds.SpanDel i) (internal-user t.range.lo t.seq kinds.SpanDel i)) && is_eq (key_cmp s.range.hi t.range.hi)) || is_upto s.range.hi (internal-user t.range.lo t.seq kinds.SpanDel i)
 
-nat_less : (x y : ℕ) → x < y → is_lt (nat_cmp x y) ≡ true
-nat_less x y h = ap (λ b. is_lt (cond b Less (cond (x == y) Equal Greater))) (lt-ltb x y h)
-
 behind : (s t : Tombstone) → s.seq < 2 ^ 56 → t.seq < 2 ^ 56 → is_ordered s ≡ true → span_precedes s t ≡ true → lies_behind (Some (span_row s)) (span_row t) ≡ true
 behind s t small_s small_t some h = elim (or_cases _ (is_upto s.range.hi t.range.lo) h) [
   | inl e ↦
@@ -79,12 +51,12 @@ behind s t small_s small_t some h = elim (or_cases _ (is_upto s.range.hi t.range
       let same = and_parts (eq_by_cmp key_cmp s.range.lo t.range.lo) (eq_by_cmp key_cmp s.range.hi t.range.hi) parts.0 in
       let less : t.seq < s.seq = ltb-true t.seq s.seq parts.1 in
       let smaller : trailer t.seq kinds.SpanDel < trailer s.seq kinds.SpanDel = omega arith in
-      let order = row_precedes s t small_s small_t ∙ ap (λ o. is_lt (ordering_then o (nat_cmp (trailer t.seq kinds.SpanDel) (trailer s.seq kinds.SpanDel)))) (eq-tells (key_cmp s.range.lo t.range.lo) same.0) ∙ nat_less (trailer t.seq kinds.SpanDel) (trailer s.seq kinds.SpanDel) smaller in
-      and_true _ _ order (row_apart s t ∙ or_left _ _ (and_true _ _ same.0 same.1))
+      let order = row_precedes s t small_s small_t ∙ ap (λ o. is_lt (ordering_then o (nat_cmp (trailer t.seq kinds.SpanDel) (trailer s.seq kinds.SpanDel)))) ((Equal-is (key_cmp s.range.lo t.range.lo)).0 same.0) ∙ ap is_lt (sym (nat_cmp_is (trailer t.seq kinds.SpanDel) (trailer s.seq kinds.SpanDel) Less smaller)) in
+      and_from _ _ order (row_apart s t ∙ or_left _ _ (and_from _ _ same.0 same.1))
   | inr e ↦
       let starts = below_upto s.range.lo s.range.hi t.range.lo some e in
       let order = row_precedes s t small_s small_t ∙ ap (λ o. is_lt (ordering_then o (nat_cmp (trailer t.seq kinds.SpanDel) (trailer s.seq kinds.SpanDel)))) (lt-tells (key_cmp s.range.lo t.range.lo) starts) in
-      and_true _ _ order (row_apart s t ∙ or_right _ _ e)
+      and_from _ _ order (row_apart s t ∙ or_right _ _ e)
 ]
 
 pub in_order : (before : List Tombstone) (t : Tombstone) (after : List Tombstone) → AreFragments (before ++ t ∷ after) → All (λ s. s.seq < 2 ^ 56) (before ++ t ∷ after) → IsTrue (lies_behind (last_of None (map span_row before)) (span_row t))

@@ -1,6 +1,6 @@
 -- Points and tombstones as rows.
-use Rattle.std.proofs.Common.{◌≡◌, ℕ, ◌+◌, ◌-◌, ◌/◌, ◌%◌, ◌^◌, ◌<◌, ◌≤◌, Bool, true, false, ◌&&◌, ◌||◌, cond, eqb, ltb, leb, List, [], length, drop, refl, sym, ap, ◌∙◌, arith}
-use Rattle.std.proofs.lemmas.Bool.{le-ltb, le-leb}
+use Rattle.std.proofs.Common.{◌≡◌, ℕ, ◌+◌, ◌-◌, ◌/◌, ◌%◌, ◌^◌, ◌<◌, ◌≤◌, true, false, cond, eqb, ltb, leb, List, [], length, drop, sym, ap, ◌∙◌, arith}
+use Rattle.std.proofs.lemmas.Bool.{le-ltb, le-leb, or_left, or_right, and_from}
 use Rattle.std.proofs.lemmas.List.{append-nil, length-append, take_at, drop_at}
 use Rattle.byteorder.specs.Endian.{little_bytes, little_number}
 use Rattle.byteorder.specs.Numbers.{little_number-reads_back}
@@ -60,34 +60,22 @@ span_user t = internal-user t.range.lo t.seq kinds.SpanDel
 pub span_number : (t : Tombstone) → t.seq < 2 ^ 56 → number (span_row t) ≡ t.seq
 span_number t small = number_of t.range.lo t.seq kinds.SpanDel small
 
-and_true : (a b : Bool) → a ≡ true → b ≡ true → (a && b) ≡ true
-and_true true b h g = g
-and_true false b h g = h
-
-or_left : (a b : Bool) → a ≡ true → (a || b) ≡ true
-or_left true b h = refl
-or_left false b h = cc
-
-or_right : (a b : Bool) → b ≡ true → (a || b) ≡ true
-or_right true b h = refl
-or_right false b h = h
-
 pub within : (least most : ℕ) (bytes : List ℕ) → least ≤ length bytes → length bytes ≤ most → is_within least most (length bytes) ≡ true
-within least most bytes low high = and_true _ _ (le-leb least (length bytes) low) (le-leb (length bytes) most high)
+within least most bytes low high = and_from _ _ (le-leb least (length bytes) low) (le-leb (length bytes) most high)
 
 point_key : (p : Point) → p.seq < 2 ^ 56 → IsKey p.key → kind_code p.kind ≤ 1 → is_point_key (point_row p).key ≡ true
 point_key p small key code =
     let is = internal-user p.key p.seq p.kind in
-    and_true _ _ (ap (λ k. is_within 1 1024 (length k)) is ∙ within 1 1024 p.key key.0 key.1)
+    and_from _ _ (ap (λ k. is_within 1 1024 (length k)) is ∙ within 1 1024 p.key key.0 key.1)
     (ap (λ n. leb n 1) (code_of p.key p.seq p.kind small) ∙ le-leb (kind_code p.kind) 1 code)
 
 point_by : (key : List ℕ) (seq : ℕ) (kind : Kind) (value : List ℕ) → seq < 2 ^ 56 → SuitsKind kind value → IsKey key → suits point_kind (point_row (record { key = key; seq = seq; kind = kind; value = value })) ≡ true
 point_by key seq kinds.Del value small fits k =
     let p : Point = record { key = key; seq = seq; kind = kinds.Del; value = value } in
-    and_true _ _ (point_key p small k (omega arith)) (or_right _ _ (ap (λ v. eqb (length v) 0) fits))
+    and_from _ _ (point_key p small k (omega arith)) (or_right _ _ (ap (λ v. eqb (length v) 0) fits))
 point_by key seq kinds.Set value small fits k =
     let p : Point = record { key = key; seq = seq; kind = kinds.Set; value = value } in
-    and_true _ _ (point_key p small k (omega arith)) (or_left _ _ (ap (λ n. eqb n 1) (code_of key seq kinds.Set small)))
+    and_from _ _ (point_key p small k (omega arith)) (or_left _ _ (ap (λ n. eqb n 1) (code_of key seq kinds.Set small)))
 point_by key seq kinds.SpanDel value small fits k = absurd fits
 
 pub point_suits : (p : Point) → IsPoint p → IsKey p.key → suits point_kind (point_row p) ≡ true
@@ -97,5 +85,5 @@ pub span_suits : (t : Tombstone) → t.seq < 2 ^ 56 → IsBound t.range.lo → I
 span_suits t small lo hi some =
     let is = internal-user t.range.lo t.seq kinds.SpanDel in
     let key : is_span_key (span_row t).key ≡ true =
-    and_true _ _ (ap (λ k. is_within 1 1025 (length k)) is ∙ within 1 1025 t.range.lo lo.0 lo.1) (ap (λ n. eqb n 15) (code_of t.range.lo t.seq kinds.SpanDel small)) in
-    and_true _ _ (and_true _ _ key (within 1 1025 t.range.hi hi.0 hi.1)) (ap (λ k. is_below k t.range.hi) is ∙ some)
+    and_from _ _ (ap (λ k. is_within 1 1025 (length k)) is ∙ within 1 1025 t.range.lo lo.0 lo.1) (ap (λ n. eqb n 15) (code_of t.range.lo t.seq kinds.SpanDel small)) in
+    and_from _ _ (and_from _ _ key (within 1 1025 t.range.hi hi.0 hi.1)) (ap (λ k. is_below k t.range.hi) is ∙ some)

@@ -35,9 +35,6 @@ has_max ns a b h g = elim (cases_lt a b) [
   | inr high ↦ let e : a ≡ max a b = omega arith in subst (Has ns) e h
 ]
 
-small_max : (a b : ℕ) → a < 2 ^ 56 → b < 2 ^ 56 → max a b < 2 ^ 56
-small_max a b h g = omega arith
-
 joined_spread : (xs ys : List ℕ) (s t : Seqs) → Spread xs (Some s) → Spread ys (Some t) → Spread (xs ++ ys) (Some (seqs (min s.lo t.lo) (max s.hi t.hi)))
 joined_spread xs ys s t h g =
     let lo = min s.lo t.lo in
@@ -45,7 +42,7 @@ joined_spread xs ys s t h g =
       within_both lo hi xs ys (wider s.lo s.hi lo hi xs (omega arith) (omega arith) h.0) (wider t.lo t.hi lo hi ys (omega arith) (omega arith) g.0),
       has_min (xs ++ ys) s.lo t.lo (Has-append_left xs ys s.lo h.1) (Has-append_right xs ys t.lo g.1),
       has_max (xs ++ ys) s.hi t.hi (Has-append_left xs ys s.hi h.2) (Has-append_right xs ys t.hi g.2),
-      small_max s.hi t.hi h.3 g.3,
+      omega (arith, h.3, g.3),
     )
 
 alone : (n : ℕ) → n < 2 ^ 56 → Spread (n ∷ []) (Some (seqs n n))

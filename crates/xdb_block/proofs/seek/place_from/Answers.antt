@@ -1,12 +1,13 @@
 use Rattle.std.proofs.Common.{◌∙◌, ◌<◌, ◌+◌, ◌-◌, ◌/◌, ap, sym, arith, length, None}
+use Rattle.std.proofs.lemmas.List.Sums.{prefix_len-le-length}
 use Rattle.xdb_block.specs.Kept.{keys_of}
 use Rattle.xdb_block.specs.Rows.{is_before}
-use Rattle.xdb_block.proofs.SeekLaws.{counted, stops, prefix_within, length-keys_of, key_at}
+use Rattle.xdb_block.proofs.SeekLaws.{counted, stops, length-keys_of, key_at}
 use Rattle.xdb_block.proofs.seek.place_from.Goals as goal
 
 pub loop-low-init : goal.loop-low-init
 loop-low-init c =
-    let upto = prefix_within (is_before c.args.user.now c.args.trailer) (keys_of c.args.keys.now c.args.places.now) in
+    let upto = prefix_len-le-length (is_before c.args.user.now c.args.trailer) (keys_of c.args.keys.now c.args.places.now) in
     record { from = omega arith; upto = omega (arith, length-keys_of c.args.keys.now c.args.places.now); within = omega arith }
 
 pub loop-low-preserved-then-is_before : goal.loop-low-preserved-then-is_before

@@ -1,10 +1,11 @@
 -- What is left to answer of `write_files`.
 use Rattle.std.proofs.Common.{ap, ◌∙◌, subst, length, Err, rules}
+use Rattle.std.proofs.Math.Nat.{le_trans}
 use Rattle.xdb_device.proofs.Counts.{Counted-refl, Counted-then, Counted-where}
 use Rattle.xdb_ext.specs.Operations.{IsFileOf}
 use Rattle.xdb_ext.specs.TableBounds.{IsExtentOf}
 use Rattle.xdb_ext.proofs.WorkLaws.{stopped_by, fault_means, tried_where}
-use Rattle.xdb_ext.proofs.LoadLaws.{one_longer, still_room, written_first, written_more, whole, stopped, stopped_at}
+use Rattle.xdb_ext.proofs.LoadLaws.{one_longer, written_first, written_more, whole, stopped, stopped_at}
 use Rattle.xdb_ext.proofs.write.write_files.Goals as goal
 
 pub loop-num-init : goal.loop-num-init
@@ -60,8 +61,8 @@ loop-num-preserved g c =
       counted = Counted-where _ _ (λ never. absurd never) (Counted-then _ _ _ before.counted c.in_ok-file.ensures.counted);
       tried = one_longer c.loop-num.tried.items c.create.new.tried.items t.0 c.loop-num.num-index c.create.ensures.tried before.tried;
       files = one_longer c.loop-num.files.items _ (t.0, table.extent, file) c.loop-num.num-index c.put.ensures.put before.files;
-      room = still_room _ _ _ before.room c.create.ensures.capacity;
-      files_room = still_room _ _ _ before.files_room c.put.ensures.capacity;
+      room = le_trans before.room c.create.ensures.capacity;
+      files_room = le_trans before.files_room c.put.ensures.capacity;
     }
 
 pub returns : goal.returns
