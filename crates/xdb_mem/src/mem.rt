@@ -134,6 +134,7 @@ impl Mem {
         ensures touches { result ≡ list_any (λ o. nat_lt o.0 below && touches o.1 ranges.now) self.now }
         ensures numbers { RisesWithin 1 (2 ^ 56) self.now }
     {
+        // With a field comes what every memtable keeps.
         let _ = &self.len;
         any_touched(self, ranges, below)
     }

@@ -59,6 +59,7 @@ pub fn read_block<R: Reader>(
         backing,
         at: part.at,
     };
+    // With the file's length comes its range.
     let _size = file.len();
     let len = part.len as usize;
     let mut bytes = read_range(alloc, dev, file, part.at, part.at + part.len + 1)?;

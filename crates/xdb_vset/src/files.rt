@@ -97,6 +97,7 @@ fn level_count(version: &Version) -> usize
     ensures count { result ≡ length version.now }
     ensures seven { result ≡ 7 }
 {
+    // With a level comes how many every version has.
     let _l0 = version.tables(0);
     7
 }
@@ -225,6 +226,7 @@ impl<F> Files<F> {
     pub fn stand(&self)
         ensures { AreFiles self.now.named self.now.known self.now.dead self.now.taken }
     {
+        // With a field comes what all such lists keep.
         let _spare = self.spare;
     }
 
