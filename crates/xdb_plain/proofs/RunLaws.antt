@@ -10,7 +10,8 @@ use Rattle.xdb_plain.specs.Edits.{is_empty}
 use Rattle.xdb_plain.specs.Legal.{after_all}
 use Rattle.xdb_plain.specs.Printed.{is_asked, is_opening}
 use Rattle.xdb_plain.specs.State.{Plain, opening, found_question, found_job}
-use Rattle.xdb_plain.specs.Runs.{Run, first_run, job_waits, question_waits, is_no_such, IsOne, IsWaited, IsRead, IsParted, IsLoading, IsWork, is_started, IsWhole, is_remove, took, IsRemoval, IsDrainBehind, IsDrain, IsReaped, named, IsBlock, one_or_two, is_build_of, is_work_of, work_len, drain_len, block_len, built_by, worked_by, run_after, AreBlocks, run_over, blocks_len, IsRunOf}
+use Rattle.xdb_plain.specs.Removals.{took}
+use Rattle.xdb_plain.specs.Runs.{Run, first_run, job_waits, question_waits, is_no_such, IsOne, IsWaited, IsRead, IsParted, IsLoading, IsWork, is_started, IsWhole, is_remove, IsRemoval, IsDrainBehind, IsDrain, IsReaped, named, IsBlock, one_or_two, is_build_of, is_work_of, work_len, drain_len, block_len, built_by, worked_by, run_after, AreBlocks, run_over, blocks_len, IsRunOf}
 use Rattle.xdb_plain.specs.declared.act.By.{By}
 use Rattle.xdb_plain.specs.declared.act.Act.{Act}
 use Rattle.xdb_plain.specs.declared.act.Act.TheVariants as act
@@ -246,7 +247,7 @@ reap-whole by p (d ∷ ds) notes b = drain-whole None p notes b
 nothing-whole : (notes : List Note) → notes ≡ [] → 0 ≡ length notes
 nothing-whole notes e = sym (ap length e)
 
-block-whole : (r : Run) (by : Option By) (c : Cmd) (notes : List Note) → IsBlock r by c notes → block_len r by c notes ≡ length notes
+pub block-whole : (r : Run) (by : Option By) (c : Cmd) (notes : List Note) → IsBlock r by c notes → block_len r by c notes ≡ length notes
 block-whole r None c notes b = nothing-whole notes b
 block-whole r (Some by) (cmd.Table table) notes b = nothing-whole notes b
 block-whole r (Some by) (cmd.Commit form ops) notes b = one-whole by (act.Commit form ops) notes b

@@ -16,5 +16,9 @@ pub mod Legal
 pub mod Words
 pub mod Printed
 pub mod Scripts
+pub mod Failures
+pub mod Removals
+pub mod Reservations
+pub mod Upkeep
 pub mod Runs
 pub mod Workers

@@ -7,6 +7,7 @@ use Rattle.xdb_plain.specs.Counts.{dead, is_among}
 use Rattle.xdb_plain.specs.Edits.{is_empty}
 use Rattle.xdb_plain.specs.Legal.{after_all}
 use Rattle.xdb_plain.specs.Printed.{is_asked, is_opening}
+use Rattle.xdb_plain.specs.Removals.{took}
 use Rattle.xdb_plain.specs.Scripts.{found_table, tables_below}
 use Rattle.xdb_plain.specs.State.{Plain, opening, found_question, found_job}
 use Rattle.xdb_plain.specs.Tables.{TableOps}
@@ -83,11 +84,18 @@ abbrev pub IsAsk : By → Question → Bool → List Note → Type 0
 IsAsk by question true notes = IsParted by question notes
 IsAsk by question false notes = IsRead by question notes
 
--- a load has two notes where its opening began
+-- an opening that began is over: the load is opened, or it failed
+abbrev pub ends_opening : Reply → Bool
+ends_opening reply.Opened = true
+ends_opening reply.Fault = true
+ends_opening reply.Memory = true
+ends_opening _ = false
+
+-- a load has two notes where its opening began, and with the second that opening is over
 abbrev pub IsLoading : By → Act → List Note → Type 0
 IsLoading by a (first ∷ []) = IsNote by a first × (is_opening first.reply ≡ false)
 IsLoading by a (first ∷ second ∷ []) =
-    IsNote by a first × (first.reply ≡ reply.Opening) × IsNote by a second × (is_opening second.reply ≡ false)
+    IsNote by a first × (first.reply ≡ reply.Opening) × IsNote by a second × IsTrue (ends_opening second.reply)
 IsLoading by a _ = ⊥
 
 -- work that is delivered prints nothing, work that fails prints so, and where there is no work to do `no-such`
@@ -118,11 +126,6 @@ is_took _ = false
 abbrev pub is_remove : Act → Bool
 is_remove (act.Remove num) = true
 is_remove _ = false
-
--- a number that was taken
-abbrev pub took : Reply → Option ℕ
-took (reply.Took num) = Some num
-took _ = None
 
 -- the removal of the number failed
 abbrev pub IsRemoval : Option ℕ → Note → Type 0

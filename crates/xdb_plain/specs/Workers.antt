@@ -1,11 +1,12 @@
 -- Runs of a script by workers: each client's lines have their blocks in order among the notes by that client.
-use Rattle.std.specs.Prelude.{◌≡◌, ℕ, ◌≤◌, Bool, true, false, not, ◌&&◌, ◌||◌, List, [], ◌∷◌, length, filter, take, drop, reverse, Option, Some, None, nat_lt, IsTrue, if◌then◌else◌}
+use Rattle.std.specs.Prelude.{◌≡◌, ℕ, ◌≤◌, Bool, true, false, not, ◌&&◌, ◌||◌, List, [], ◌∷◌, ◌++◌, length, filter, take, drop, reverse, Option, Some, None, nat_lt, IsTrue, if◌then◌else◌}
 use Rattle.std.specs.List.{list_all}
 use Rattle.xdb_edit.specs.Plans.{pick}
+use Rattle.xdb_plain.specs.Answers.{first_of}
 use Rattle.xdb_plain.specs.Counts.{dead}
 use Rattle.xdb_plain.specs.Legal.{after_all}
 use Rattle.xdb_plain.specs.Replies.{same_by}
-use Rattle.xdb_plain.specs.Runs.{IsBlock, block_len, run_at, is_not_yet, is_no_such}
+use Rattle.xdb_plain.specs.Runs.{IsNote, IsBlock, block_len, run_at, named, is_not_yet, is_no_such}
 use Rattle.xdb_plain.specs.Scripts.{tables_below}
 use Rattle.xdb_plain.specs.State.{Plain, opening}
 use Rattle.xdb_plain.specs.Steps.{is_db}
@@ -18,6 +19,8 @@ use Rattle.xdb_plain.specs.declared.act.StatusForm.TheVariants as status_form
 use Rattle.xdb_plain.specs.declared.reply.Reply.{Reply}
 use Rattle.xdb_plain.specs.declared.reply.Reply.TheVariants as reply
 use Rattle.xdb_plain.specs.declared.note.Note.{Note}
+use Rattle.xdb_plain.specs.declared.script.Cmd.{Cmd}
+use Rattle.xdb_plain.specs.declared.script.Cmd.TheVariants as cmd
 use Rattle.xdb_plain.specs.declared.script.Line.{Line}
 
 abbrev pub notes_by : By → List Note → List Note
@@ -40,6 +43,33 @@ AreClientBlocks tables (line ∷ lines) notes =
     let r = run_at (opening 1 1) [] [] tables in
     let len = block_len r line.by line.cmd notes in
     IsBlock r line.by line.cmd (take len notes) × AreClientBlocks (tables_below tables line.cmd) lines (drop len notes)
+
+-- the tables that lines define, behind others
+abbrev pub tables_over : List TableOps → List Line → List TableOps
+tables_over tables [] = tables
+tables_over tables (line ∷ lines) = tables_over (tables_below tables line.cmd) lines
+
+-- What there is of the block of a command that is under way: nothing, or the note of its beginning.
+abbrev pub IsBegun : List TableOps → Option By → Cmd → List Note → Type 0
+IsBegun tables by c [] = Unit {0}
+IsBegun tables (Some by) (cmd.Ask question parted) (note ∷ []) =
+    (parted ≡ false) × ((ask : ℕ) × IsNote by (act.Ask ask question false) note × (note.reply ≡ reply.Asked ask))
+IsBegun tables (Some by) (cmd.Load load names span) (note ∷ []) =
+    IsNote by (act.LoadOpen load (named names tables) span) note × (note.reply ≡ reply.Opening)
+IsBegun tables by c _ = ⊥
+
+-- Behind the last line nothing is under way.
+abbrev pub IsUnderWay : List TableOps → Option Line → List Note → Type 0
+IsUnderWay tables None begun = begun ≡ []
+IsUnderWay tables (Some line) begun = IsBegun tables line.by line.cmd begun
+
+-- How far a client has come in its lines: so many are done, and of the next one's block there is the beginning.
+pub record HasCome (lines : List Line) (done : ℕ) (begun notes : List Note) : Type 0 where
+  pub blocks : List Note
+  pub whole : notes ≡ blocks ++ begun
+  pub within : done ≤ length lines
+  pub are_done : AreClientBlocks [] (take done lines) blocks
+  pub under_way : IsUnderWay (tables_over [] (take done lines)) (first_of (drop done lines)) begun
 
 abbrev pub is_work : Act → Bool
 is_work (act.Build job) = true

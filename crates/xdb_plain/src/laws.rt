@@ -1,7 +1,8 @@
 //! Laws of the definitions, each a function that does nothing.
-ghost use Rattle.std.specs.Prelude.{◌≡◌, ◌++◌, ◌∷◌, [], ℕ, List, true, false};
+ghost use Rattle.std.specs.Prelude.{◌≡◌, ◌+◌, ◌&&◌, ◌||◌, ◌++◌, ◌∷◌, [], ℕ, List, true, false};
 ghost use Rattle.xdb_plain.specs.State.{Plain, opening};
 ghost use Rattle.xdb_plain.specs.Changes.{after};
+ghost use Rattle.xdb_plain.specs.Failures.{faults, has_damage, is_faultless};
 ghost use Rattle.xdb_plain.specs.Holds.{HoldsFit};
 ghost use Rattle.xdb_plain.specs.Outcomes.{stays, outcome, is_refused};
 ghost use Rattle.xdb_plain.specs.Steps.{MayStand};
@@ -60,4 +61,15 @@ pub fn refused_steps_change_nothing()
 /// A reply that may stand is one that its act can have at all.
 pub fn replies_are_of_their_acts()
     ensures { (p : Plain) (note : Note) → MayStand p note → is_reply_of note.act note.reply ≡ true }
+{}
+
+/// What a history tells of devices that failed and of damaged files adds up over its parts, and a faultless one tells
+/// of neither.
+pub fn failures_add_up()
+    ensures faults { (a b : List Note) → faults (a ++ b) ≡ faults a + faults b }
+    ensures damage { (a b : List Note) → has_damage (a ++ b) ≡ (has_damage a || has_damage b) }
+    ensures faultless { (a b : List Note) → is_faultless (a ++ b) ≡ (is_faultless a && is_faultless b) }
+    ensures tells_none { (notes : List Note) → is_faultless notes ≡ true
+        → (faults notes ≡ 0) × (has_damage notes ≡ false) }
+    ensures only { (notes : List Note) → faults notes ≡ 0 → has_damage notes ≡ false → is_faultless notes ≡ true }
 {}
