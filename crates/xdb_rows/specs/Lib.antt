@@ -1,7 +1,9 @@
 pub mod Notes
+pub mod Lines
+pub mod Judged
 pub mod Reads
 pub mod Flushes
 pub mod Snapshots
 pub mod Loads
 pub mod Excises
-pub mod Judged
+pub mod Tables

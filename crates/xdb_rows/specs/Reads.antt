@@ -1,5 +1,5 @@
 -- Histories of commits and reads.
-use Rattle.std.specs.Prelude.{true, List, [], ◌∷◌, ◌++◌, None, codes}
+use Rattle.std.specs.Prelude.{ℕ, true, List, [], ◌∷◌, ◌++◌, None, codes}
 use Rattle.xdb_key.specs.declared.op.Op.TheVariants.{Set, DelSpan}
 use Rattle.xdb_plain.specs.declared.act.Act.TheVariants.{Work, Settle}
 use Rattle.xdb_plain.specs.declared.answer.Answer.TheVariants.{Value, Absent, Found}
@@ -7,6 +7,8 @@ use Rattle.xdb_plain.specs.declared.note.HoldNote.TheVariants.{Hold}
 use Rattle.xdb_plain.specs.declared.note.Note.{Note}
 use Rattle.xdb_plain.specs.declared.question.Question.TheVariants.{RScan}
 use Rattle.xdb_plain.specs.declared.reply.Reply.TheVariants as reply
+use Rattle.xdb_plain.specs.declared.script.Line.{Line}
+use Rattle.xdb_rows.specs.Lines as line
 use Rattle.xdb_rows.specs.Notes.{c1, c2, db, from_to, put, del, batch, read, get, get_at, scan, let_go, ask_held, ask_refused}
 
 abbrev pub empty_script : List Note
@@ -18,6 +20,22 @@ stored_run =
     ∷ read 1 (get (codes "a")) 1 0 (Value (codes "1"))
     ++ c1 (del (codes "a")) reply.Done
     ∷ read 2 (get (codes "a")) 2 0 Absent
+
+abbrev pub stored_run_script : List Line
+stored_run_script =
+    line.lines (line.c1 (line.put (codes "a") (codes "1"))
+    ∷ line.c1 (line.ask (get (codes "a")))
+    ∷ line.c1 (line.del (codes "a"))
+    ∷ line.c1 (line.ask (get (codes "a")))
+    ∷ [])
+
+abbrev pub stored_run_text : List (List ℕ)
+stored_run_text =
+    codes "c1 put a 1 -> done"
+    ∷ codes "c1 get a -> value 1"
+    ∷ codes "c1 del a -> done"
+    ∷ codes "c1 get a -> none"
+    ∷ []
 
 abbrev pub two_clients : List Note
 two_clients =

@@ -9,3 +9,4 @@ pub mod refused_edits;
 pub mod refused_holds;
 pub mod refused_replies;
 pub mod snapshots;
+pub mod tables;

@@ -2,8 +2,8 @@
 ghost use Rattle.std.specs.Prelude.{◌-◌, ◌^◌};
 ghost use Rattle.xdb_plain.specs.State.{opening};
 ghost use Rattle.xdb_plain.specs.Legal.{IsLegal, TellHolds};
-ghost use Rattle.xdb_rows.specs.Judged.{AnswersWell};
-ghost use Rattle.xdb_rows.specs.Reads.{empty_script, stored_run, two_clients, batch_order, question_in_parts, read_at_nothing, last_numbers};
+ghost use Rattle.xdb_rows.specs.Judged.{IsWorked};
+ghost use Rattle.xdb_rows.specs.Reads.{empty_script, stored_run_script, stored_run, stored_run_text, two_clients, batch_order, question_in_parts, read_at_nothing, last_numbers};
 
 /// Empty script.
 pub fn empty_script()
@@ -13,10 +13,7 @@ pub fn empty_script()
 
 /// Stored run.
 pub fn stored_run()
-    ensures legal { IsLegal 1 1 stored_run }
-    ensures holds { TellHolds (opening 1 1) stored_run }
-    ensures right { AnswersWell 2 stored_run }
-    ensures right_again { AnswersWell 5 stored_run }
+    ensures { IsWorked stored_run_script stored_run stored_run_text }
 {}
 
 /// Two clients.
@@ -35,7 +32,6 @@ pub fn batch_order()
 pub fn question_in_parts()
     ensures legal { IsLegal 1 1 question_in_parts }
     ensures holds { TellHolds (opening 1 1) question_in_parts }
-    ensures right { AnswersWell 4 question_in_parts }
 {}
 
 /// A read at a snapshot that there isn't.

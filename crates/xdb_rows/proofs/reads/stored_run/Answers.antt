@@ -1,9 +1,9 @@
-use Rattle.std.proofs.Common.{rules}
+use Rattle.std.proofs.Common.{rules, refl}
 use Rattle.std.specs.FinMap.{gets}
+use Rattle.std.specs.Fmt.{digits}
+use Rattle.xdb_rows.proofs.MapLaws.{known_entries}
 use Rattle.xdb_rows.proofs.reads.stored_run.Goals as goal
 
-pub returns-clause-right : goal.returns-clause-right
-returns-clause-right c = search (rules, gets)
-
-pub returns-clause-right_again : goal.returns-clause-right_again
-returns-clause-right_again c = search (rules, gets)
+pub returns : goal.returns
+unfolding digits
+returns c = record { script = search rules; right = search (rules, gets, known_entries); holds = search rules; run = search rules; prints = refl }

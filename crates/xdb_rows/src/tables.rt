@@ -1,0 +1,2 @@
+//! Tables of cases that tell definitions apart: each notices a definition that is changed in one place.
+pub mod orders;
