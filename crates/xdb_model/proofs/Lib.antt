@@ -29,3 +29,4 @@ pub mod InputLaws
 pub mod HeldLaws
 pub mod InUseLaws
 pub mod FlushLaws
+pub mod UpkeepLaws

@@ -6,3 +6,4 @@ pub mod Named
 pub mod Numbered
 pub mod Progress
 pub mod Refusals
+pub mod Upkeep

@@ -5,4 +5,5 @@ pub mod causes;
 pub mod counts;
 pub mod numbers;
 pub mod refusals;
+pub mod upkeep;
 pub mod versions;
