@@ -6,4 +6,5 @@ pub mod Named
 pub mod Numbered
 pub mod Progress
 pub mod Refusals
+pub mod Reserved
 pub mod Upkeep

@@ -3,6 +3,7 @@
 
 pub mod causes;
 pub mod counts;
+pub mod files;
 pub mod numbers;
 pub mod refusals;
 pub mod upkeep;
