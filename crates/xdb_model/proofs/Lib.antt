@@ -33,3 +33,4 @@ pub mod FlushLaws
 pub mod UpkeepLaws
 pub mod ReservedLaws
 pub mod RemovalLaws
+pub mod ClientLaws

@@ -1,5 +1,6 @@
 pub mod Apart
 pub mod Causes
+pub mod Clients
 pub mod Counted
 pub mod Flushes
 pub mod Named

@@ -2,6 +2,7 @@
 #![tactic(auto)]
 
 pub mod causes;
+pub mod clients;
 pub mod counts;
 pub mod files;
 pub mod numbers;
