@@ -1,6 +1,6 @@
 -- Whatever holds of the file numbers that jobs and loads have, holds of the files that are made or tried, and of those
 -- that tables stand on.
-use Rattle.std.proofs.Common.{◌≡◌, ℕ, zero, suc, ◌+◌, ◌<◌, ◌≤◌, Bool, true, false, cond, not, eqb, leb, ltb, ◌&&◌, List, [], ◌∷◌, ◌++◌, length, map, Option, Some, None, refl, sym, subst, ◌∙◌, inl, inr, arith}
+use Rattle.std.proofs.Common.{◌≡◌, ℕ, zero, suc, ◌+◌, ◌<◌, ◌≤◌, Bool, true, false, cond, not, eqb, leb, ltb, ◌&&◌, List, [], ◌∷◌, ◌++◌, length, Option, Some, None, refl, sym, subst, ◌∙◌, inl, inr, arith}
 use Rattle.std.proofs.lemmas.Bool.{false≢true, and_parts, not-true, cases_Bool, eqb-true, leb-true, leb-false, ltb-true}
 use Rattle.std.specs.List.{list_any, list_all, range_with_len, AllByRecursion}
 use Rattle.xdb_key.specs.Bounds.{Bounds, covers}
@@ -9,7 +9,7 @@ use Rattle.xdb_edit.specs.Changes.{Changes}
 use Rattle.xdb_edit.specs.Versions.{LevelLists, tables_of}
 use Rattle.xdb_plain.specs.Changes.{new_files, known_after}
 use Rattle.xdb_plain.specs.Counts.{with_number, with_numbers, is_within, job_numbers}
-use Rattle.xdb_plain.specs.Edits.{IsInstallOf, is_flushed, is_output, is_empty, are_halves, crossed, running_hulls, virtual_in, physical_in, halved, rest}
+use Rattle.xdb_plain.specs.Edits.{IsInstallOf, is_flushed, is_output, are_halves, crossed, running_hulls, virtual_in, physical_in, halved, rest}
 use Rattle.xdb_plain.specs.Outcomes.{Outcome, fails, cancels, outcome}
 use Rattle.xdb_plain.specs.Replies.{may_reply, same_reply, install_replies}
 use Rattle.xdb_plain.specs.State.{Plain, Load, Phase, being_opened, waiting, is_in, is_open, Job, JobKind, flush_of, compaction_of, Compaction, found_load, found_job, same_name}

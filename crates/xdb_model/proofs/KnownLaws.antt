@@ -1,18 +1,17 @@
 -- Known numbers lie below the next one, and no running job or open load has a number that was taken.
-use Rattle.std.proofs.Common.{◌≡◌, ℕ, suc, zero, ◌+◌, ◌<◌, ◌≤◌, Bool, true, false, cond, not, eqb, leb, ltb, ◌&&◌, List, [], ◌∷◌, ◌++◌, length, map, filter, Option, Some, None, refl, sym, subst, arith}
-use Rattle.std.proofs.lemmas.Bool.{and_parts, or_parts, not-true, ltb-true, lt-leb, and_left}
-use Rattle.std.specs.List.{list_any, list_all, find, range_with_len, AllByRecursion}
+use Rattle.std.proofs.Common.{◌≡◌, ℕ, ◌+◌, ◌<◌, ◌≤◌, Bool, true, false, cond, not, eqb, leb, ltb, ◌&&◌, List, [], ◌∷◌, ◌++◌, length, map, filter, Option, Some, None, refl, sym, subst, arith}
+use Rattle.std.proofs.lemmas.Bool.{and_parts, or_parts, not-true, lt-leb, and_left}
+use Rattle.std.specs.List.{list_any, AllByRecursion}
 use Rattle.xdb_key.specs.Bounds.{Bounds}
 use Rattle.xdb_key.specs.Groups.{Group}
-use Rattle.xdb_edit.specs.Changes.{Changes}
 use Rattle.xdb_edit.specs.Plans.{Planned}
-use Rattle.xdb_plain.specs.Changes.{after, known_after, taken_after, file_after, new_files, jobs_after, new_flush, new_compaction, cancelled_by, cancelled_job, span_of_load}
-use Rattle.xdb_plain.specs.Counts.{with_number, with_numbers, is_within, is_among, is_dead, is_owned, job_owns, load_owns, job_numbers, count}
+use Rattle.xdb_plain.specs.Changes.{after, known_after, taken_after, file_after, jobs_after, new_flush, new_compaction, cancelled_by, cancelled_job, span_of_load}
+use Rattle.xdb_plain.specs.Counts.{is_within, is_among, is_dead, is_owned, job_owns, load_owns, job_numbers, count}
 use Rattle.xdb_plain.specs.Legal.{Legal, after_all}
 use Rattle.xdb_plain.specs.Outcomes.{Outcome, succeeds, fails, cancels, outcome}
 use Rattle.xdb_plain.specs.Replies.{plan_now}
-use Rattle.xdb_plain.specs.State.{Plain, Load, Job, JobKind, flush_of, compaction_of, opening, open_loads, found_load, found_job, without_job, same_name}
-use Rattle.xdb_plain.specs.Steps.{MayStand, HasEdit, FitsEdit, PutsJob, InstallsLoad, FitsTried, FitsJobTried, FitsLoadTried, are_rising_numbers}
+use Rattle.xdb_plain.specs.State.{Plain, Job, opening, open_loads, without_job}
+use Rattle.xdb_plain.specs.Steps.{MayStand}
 use Rattle.xdb_plain.specs.declared.act.Act.{Act}
 use Rattle.xdb_plain.specs.declared.act.Act.TheVariants as act
 use Rattle.xdb_plain.specs.declared.note.Note.{Note}

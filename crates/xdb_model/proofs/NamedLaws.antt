@@ -1,26 +1,19 @@
 -- Behind the note that takes a number no version names its file.
-use Rattle.std.proofs.Common.{◌≡◌, ℕ, zero, suc, ◌+◌, ◌<◌, ◌≤◌, Bool, true, false, cond, not, eqb, ◌&&◌, List, [], ◌∷◌, ◌++◌, length, map, filter, Option, Some, None, refl, sym, ap, subst, ◌∙◌, inl, inr, arith}
-use Rattle.std.proofs.lemmas.Bool.{false≢true, and_parts, and_from, or_from, not-true, cases_Bool, eqb-true, le-leb, lt-ltb}
-use Rattle.std.specs.List.{list_any, list_all, flat_map, range_with_len, AllByRecursion}
-use Rattle.xdb_key.specs.Bounds.{Bounds, covers}
-use Rattle.xdb_meta.specs.Table.{Table, IsTable, bounds_of}
+use Rattle.std.proofs.Common.{◌≡◌, ℕ, ◌+◌, ◌<◌, ◌≤◌, Bool, true, false, cond, not, eqb, ◌&&◌, List, [], ◌∷◌, ◌++◌, length, map, filter, Option, Some, None, refl, sym, ap, subst, ◌∙◌, inl, inr, arith}
+use Rattle.std.proofs.lemmas.Bool.{false≢true, and_parts, and_from, or_from, cases_Bool, eqb-true, le-leb, lt-ltb}
+use Rattle.std.specs.List.{list_any, flat_map, range_with_len, AllByRecursion}
+use Rattle.xdb_meta.specs.Table.{Table}
 use Rattle.xdb_edit.specs.Changes.{Changes}
-use Rattle.xdb_edit.specs.Versions.{LevelLists, tables_of}
+use Rattle.xdb_edit.specs.Versions.{LevelLists}
 use Rattle.xdb_plain.specs.Changes.{after}
 use Rattle.xdb_plain.specs.Counts.{is_within, is_among, is_dead, is_owned, load_owns, job_numbers, count, backings, distinct}
-use Rattle.xdb_plain.specs.Edits.{IsCompactionOf, IsInstallOf, is_flushed, is_output, is_empty, are_halves, crossed, running_hulls, virtual_in, physical_in, halved, rest}
+use Rattle.xdb_plain.specs.Edits.{rest}
 use Rattle.xdb_plain.specs.Holds.{version_after}
 use Rattle.xdb_plain.specs.Legal.{Legal, after_all}
 use Rattle.xdb_plain.specs.Outcomes.{outcome}
-use Rattle.xdb_plain.specs.Replies.{may_reply, same_reply, install_replies}
-use Rattle.xdb_plain.specs.State.{Plain, Version, Load, Phase, being_opened, waiting, is_in, is_open, Job, JobKind, flush_of, compaction_of, Compaction, opening, found_load, found_job, same_name}
-use Rattle.xdb_plain.specs.Steps.{MayStand, HasEdit, FitsEdit, PutsJob, InstallsLoad}
-use Rattle.xdb_plain.specs.Tables.{TableOps}
-use Rattle.xdb_plain.specs.declared.act.Act.{Act}
-use Rattle.xdb_plain.specs.declared.act.Act.TheVariants as act
-use Rattle.xdb_plain.specs.declared.act.By.{By}
+use Rattle.xdb_plain.specs.State.{Plain, Version, opening}
+use Rattle.xdb_plain.specs.Steps.{MayStand}
 use Rattle.xdb_plain.specs.declared.note.Note.{Note}
-use Rattle.xdb_plain.specs.declared.reply.Reply.{Reply}
 use Rattle.xdb_plain.specs.declared.reply.Reply.TheVariants as reply
 use Rattle.xdb_model.proofs.ListLaws.{all-more, all-unmap}
 use Rattle.xdb_model.proofs.BackingLaws.{JobHas, OpenHas, AddsOn, range-all, files-by, adds-on}

@@ -1,5 +1,5 @@
 -- File numbers are reserved in order, and no file has another one.
-use Rattle.std.proofs.Common.{◌≡◌, ℕ, zero, suc, ◌+◌, ◌<◌, ◌≤◌, Bool, true, false, cond, not, eqb, ◌||◌, List, [], ◌∷◌, ◌++◌, length, map, filter, Option, Some, None, is_some, refl, sym, ap, subst, ◌∙◌, inl, inr, arith}
+use Rattle.std.proofs.Common.{◌≡◌, ℕ, zero, suc, ◌+◌, ◌<◌, ◌≤◌, true, false, cond, not, eqb, List, [], ◌∷◌, ◌++◌, length, Option, Some, None, is_some, refl, sym, ap, subst, ◌∙◌, arith}
 use Rattle.std.proofs.lemmas.Bool.{or_from, ne_eqb}
 use Rattle.std.proofs.lemmas.List.{append-nil, append_assoc}
 use Rattle.std.specs.List.{list_any, flat_map, range_with_len, AllByRecursion}
@@ -37,7 +37,7 @@ use Rattle.xdb_model.proofs.NamedLaws.{legal-parts}
 use Rattle.xdb_model.proofs.TakenLaws.{only-reap}
 use Rattle.xdb_model.specs.Counted.{standing}
 use Rattle.xdb_model.specs.Numbered.{AreDistinct}
-use Rattle.xdb_model.specs.Reserved.{RiseWithin}
+use Rattle.xdb_model.specs.Reserved.{RiseWithin, AreReserved}
 
 pub reserved-push : (p : Plain) (notes : List Note) (note : Note) → reserved_in p (notes ++ note ∷ []) ≡ reserved_in p notes ++ reserved_by (after_all p notes) note
 reserved-push p [] note = append-nil (reserved_by p note)
@@ -200,16 +200,16 @@ has-reserved first_seq first_file notes legal =
     let P = Has (reserved_in p notes) in
     over-notes P p notes legal (all-from_has P (reserved_in p notes) (λ n has. has)) (record { jobs = tt; loads = tt; known = tt; taken = tt; current = (tt, (tt, (tt, (tt, (tt, (tt, (tt, tt))))))); held = tt })
 
-pub jobs-reserved : (first_seq first_file : ℕ) (notes : List Note) → Legal (opening first_seq first_file) notes → AllByRecursion (λ j. AllByRecursion (Has (reserved_in (opening first_seq first_file) notes)) (range_with_len j.first (job_numbers j.kind))) (after_all (opening first_seq first_file) notes).jobs
+pub jobs-reserved : (first_seq first_file : ℕ) (notes : List Note) → Legal (opening first_seq first_file) notes → AllByRecursion (λ j. AreReserved (opening first_seq first_file) notes (range_with_len j.first (job_numbers j.kind))) (after_all (opening first_seq first_file) notes).jobs
 jobs-reserved first_seq first_file notes legal = (has-reserved first_seq first_file notes legal).jobs
 
-pub loads-reserved : (first_seq first_file : ℕ) (notes : List Note) → Legal (opening first_seq first_file) notes → AllByRecursion (λ l. AllByRecursion (Has (reserved_in (opening first_seq first_file) notes)) (range_with_len l.first (length l.tables))) (after_all (opening first_seq first_file) notes).loads
+pub loads-reserved : (first_seq first_file : ℕ) (notes : List Note) → Legal (opening first_seq first_file) notes → AllByRecursion (λ l. AreReserved (opening first_seq first_file) notes (range_with_len l.first (length l.tables))) (after_all (opening first_seq first_file) notes).loads
 loads-reserved first_seq first_file notes legal = (has-reserved first_seq first_file notes legal).loads
 
-pub known-reserved : (first_seq first_file : ℕ) (notes : List Note) → Legal (opening first_seq first_file) notes → AllByRecursion (Has (reserved_in (opening first_seq first_file) notes)) (after_all (opening first_seq first_file) notes).known
+pub known-reserved : (first_seq first_file : ℕ) (notes : List Note) → Legal (opening first_seq first_file) notes → AreReserved (opening first_seq first_file) notes (after_all (opening first_seq first_file) notes).known
 known-reserved first_seq first_file notes legal = (has-reserved first_seq first_file notes legal).known
 
-pub taken-reserved : (first_seq first_file : ℕ) (notes : List Note) → Legal (opening first_seq first_file) notes → AllByRecursion (Has (reserved_in (opening first_seq first_file) notes)) (after_all (opening first_seq first_file) notes).taken
+pub taken-reserved : (first_seq first_file : ℕ) (notes : List Note) → Legal (opening first_seq first_file) notes → AreReserved (opening first_seq first_file) notes (after_all (opening first_seq first_file) notes).taken
 taken-reserved first_seq first_file notes legal = (has-reserved first_seq first_file notes legal).taken
 
 flat-on : (P : ℕ → Type 0) (levels : LevelLists) → AllStandOn P levels → AllByRecursion (StandsOn P) (flat_map (λ ts. ts) levels)
@@ -219,7 +219,7 @@ flat-on P (ts ∷ rest) all = all-append (StandsOn P) ts (flat_map (λ ts. ts) r
 version-on : (P : ℕ → Type 0) (v : Version) → AllStandOn P v.levels → AllByRecursion P (backings v)
 version-on P v all = all-map P (λ (t : Table). t.backing) (flat_map (λ ts. ts) v.levels) (flat-on P v.levels all)
 
-pub tables-reserved : (first_seq first_file : ℕ) (notes : List Note) → Legal (opening first_seq first_file) notes → AllByRecursion (λ v. AllByRecursion (Has (reserved_in (opening first_seq first_file) notes)) (backings v)) (standing (after_all (opening first_seq first_file) notes))
+pub tables-reserved : (first_seq first_file : ℕ) (notes : List Note) → Legal (opening first_seq first_file) notes → AllByRecursion (λ v. AreReserved (opening first_seq first_file) notes (backings v)) (standing (after_all (opening first_seq first_file) notes))
 tables-reserved first_seq first_file notes legal =
     let p = opening first_seq first_file in
     let P = Has (reserved_in p notes) in
@@ -229,13 +229,13 @@ tables-reserved first_seq first_file notes legal =
           (all-more (λ h. AllStandOn P h.version.levels) _ (after_all p notes).holds (λ h on. version-on P h.version on) has.held),
     )
 
-pub made-reserved : (first_seq first_file : ℕ) (before : List Note) (note : Note) (later : List Note) → Legal (opening first_seq first_file) (before ++ note ∷ later) → AllByRecursion (Has (reserved_in (opening first_seq first_file) before)) (new_files note.edit)
+pub made-reserved : (first_seq first_file : ℕ) (before : List Note) (note : Note) (later : List Note) → Legal (opening first_seq first_file) (before ++ note ∷ later) → AreReserved (opening first_seq first_file) before (new_files note.edit)
 made-reserved first_seq first_file before note later legal =
     let p = opening first_seq first_file in
     let parts = legal-parts p before (note ∷ later) legal in
     made-by (Has (reserved_in p before)) (after_all p before) note parts.1.0 (has-reserved first_seq first_file before parts.0)
 
-pub tried-reserved : (first_seq first_file : ℕ) (before : List Note) (note : Note) (later : List Note) → Legal (opening first_seq first_file) (before ++ note ∷ later) → AllByRecursion (Has (reserved_in (opening first_seq first_file) before)) note.tried
+pub tried-reserved : (first_seq first_file : ℕ) (before : List Note) (note : Note) (later : List Note) → Legal (opening first_seq first_file) (before ++ note ∷ later) → AreReserved (opening first_seq first_file) before note.tried
 tried-reserved first_seq first_file before note later legal =
     let p = opening first_seq first_file in
     let parts = legal-parts p before (note ∷ later) legal in

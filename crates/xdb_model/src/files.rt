@@ -14,7 +14,7 @@ ghost use Rattle.xdb_plain.specs.declared.note.Note.{Note};
 ghost use Rattle.xdb_plain.specs.declared.reply.Reply.TheVariants as reply;
 ghost use Rattle.xdb_model.specs.Counted.{standing};
 ghost use Rattle.xdb_model.specs.Numbered.{AreDistinct};
-ghost use Rattle.xdb_model.specs.Reserved.{RiseWithin};
+ghost use Rattle.xdb_model.specs.Reserved.{RiseWithin, AreReserved};
 
 /// A note adds the numbers that it reserves to those that the notes before it reserved.
 pub fn reservations_go_on()
@@ -36,19 +36,24 @@ pub fn numbers_are_reserved_once()
 /// tables have numbers that aren't reserved: they have no files.
 pub fn numbers_of_files_were_reserved()
     ensures jobs { (first_seq first_file : ℕ) (notes : List Note) → IsLegal first_seq first_file notes
-        → AllByRecursion (λ j. AllByRecursion (Has (reserved_in (opening first_seq first_file) notes)) (range_with_len j.first (job_numbers j.kind))) (after_all (opening first_seq first_file) notes).jobs }
+        → AllByRecursion (λ j. AreReserved (opening first_seq first_file) notes (range_with_len j.first (job_numbers j.kind)))
+        (after_all (opening first_seq first_file) notes).jobs }
     ensures loads { (first_seq first_file : ℕ) (notes : List Note) → IsLegal first_seq first_file notes
-        → AllByRecursion (λ l. AllByRecursion (Has (reserved_in (opening first_seq first_file) notes)) (range_with_len l.first (length l.tables))) (after_all (opening first_seq first_file) notes).loads }
+        → AllByRecursion (λ l. AreReserved (opening first_seq first_file) notes (range_with_len l.first (length l.tables)))
+        (after_all (opening first_seq first_file) notes).loads }
     ensures known { (first_seq first_file : ℕ) (notes : List Note) → IsLegal first_seq first_file notes
-        → AllByRecursion (Has (reserved_in (opening first_seq first_file) notes)) (after_all (opening first_seq first_file) notes).known }
+        → AreReserved (opening first_seq first_file) notes (after_all (opening first_seq first_file) notes).known }
     ensures taken { (first_seq first_file : ℕ) (notes : List Note) → IsLegal first_seq first_file notes
-        → AllByRecursion (Has (reserved_in (opening first_seq first_file) notes)) (after_all (opening first_seq first_file) notes).taken }
+        → AreReserved (opening first_seq first_file) notes (after_all (opening first_seq first_file) notes).taken }
     ensures tables { (first_seq first_file : ℕ) (notes : List Note) → IsLegal first_seq first_file notes
-        → AllByRecursion (λ v. AllByRecursion (Has (reserved_in (opening first_seq first_file) notes)) (backings v)) (standing (after_all (opening first_seq first_file) notes)) }
-    ensures made { (first_seq first_file : ℕ) (before : List Note) (note : Note) (later : List Note) → IsLegal first_seq first_file (before ++ note ∷ later)
-        → AllByRecursion (Has (reserved_in (opening first_seq first_file) before)) (new_files note.edit) }
-    ensures tried { (first_seq first_file : ℕ) (before : List Note) (note : Note) (later : List Note) → IsLegal first_seq first_file (before ++ note ∷ later)
-        → AllByRecursion (Has (reserved_in (opening first_seq first_file) before)) note.tried }
+        → AllByRecursion (λ v. AreReserved (opening first_seq first_file) notes (backings v))
+        (standing (after_all (opening first_seq first_file) notes)) }
+    ensures made { (first_seq first_file : ℕ) (before : List Note) (note : Note) (later : List Note)
+        → IsLegal first_seq first_file (before ++ note ∷ later)
+        → AreReserved (opening first_seq first_file) before (new_files note.edit) }
+    ensures tried { (first_seq first_file : ℕ) (before : List Note) (note : Note) (later : List Note)
+        → IsLegal first_seq first_file (before ++ note ∷ later)
+        → AreReserved (opening first_seq first_file) before note.tried }
 {}
 
 /// A number that is taken is the last of those that were removed, unless its removal failed. Where the failure is
@@ -56,20 +61,24 @@ pub fn numbers_of_files_were_reserved()
 pub fn removals_go_on()
     ensures stays { (notes : List Note) (note : Note) → took note.reply ≡ None → left_by note.act ≡ None
         → removed_in (notes ++ note ∷ []) ≡ removed_in notes }
-    ensures takes { (notes : List Note) (note : Note) (num : ℕ) → took note.reply ≡ Some num → left_by note.act ≡ None
-        → is_among num (left_in notes) ≡ false → removed_in (notes ++ note ∷ []) ≡ removed_in notes ++ num ∷ [] }
-    ensures leaves { (notes : List Note) (taking removing : Note) (num : ℕ) → took taking.reply ≡ Some num → left_by taking.act ≡ None
+    ensures takes { (notes : List Note) (note : Note) (num : ℕ)
+        → took note.reply ≡ Some num → left_by note.act ≡ None → is_among num (left_in notes) ≡ false
+        → removed_in (notes ++ note ∷ []) ≡ removed_in notes ++ num ∷ [] }
+    ensures leaves { (notes : List Note) (taking removing : Note) (num : ℕ)
+        → took taking.reply ≡ Some num → left_by taking.act ≡ None
         → took removing.reply ≡ None → left_by removing.act ≡ Some num → is_among num (taken_in notes) ≡ false
         → removed_in ((notes ++ taking ∷ []) ++ removing ∷ []) ≡ removed_in notes }
-    ensures leaves_later { (notes : List Note) (note : Note) (num : ℕ) → took note.reply ≡ None → left_by note.act ≡ Some num
+    ensures leaves_later { (notes : List Note) (note : Note) (num : ℕ)
+        → took note.reply ≡ None → left_by note.act ≡ Some num
         → removed_in (notes ++ note ∷ []) ≡ filter (λ n. not (n == num)) (removed_in notes) }
 {}
 
 /// In a legal history the number that a note takes was neither taken nor left before, and a removal that failed is of
 /// a number that was taken.
 pub fn removals_are_of_taken_files()
-    ensures taking { (first_seq first_file : ℕ) (notes : List Note) (note : Note) (num : ℕ) → IsLegal first_seq first_file notes
-        → MayStand (after_all (opening first_seq first_file) notes) note → note.reply ≡ reply.Took num
+    ensures taking { (first_seq first_file : ℕ) (notes : List Note) (note : Note) (num : ℕ)
+        → IsLegal first_seq first_file notes → MayStand (after_all (opening first_seq first_file) notes) note
+        → note.reply ≡ reply.Took num
         → (left_by note.act ≡ None) × (is_among num (taken_in notes) ≡ false) × (is_among num (left_in notes) ≡ false) }
     ensures removing { (p : Plain) (note : Note) (num : ℕ) → MayStand p note → note.act ≡ act.Remove num
         → (took note.reply ≡ None) × (is_among num p.taken ≡ true) }
