@@ -25,9 +25,8 @@ use Rattle.xdb_plain.specs.declared.act.By.{By}
 use Rattle.xdb_plain.specs.declared.note.Note.{Note}
 use Rattle.xdb_plain.specs.declared.reply.Reply.{Reply}
 use Rattle.xdb_plain.specs.declared.reply.Reply.TheVariants as reply
-use Rattle.xdb_model.proofs.ListLaws.{all-append, all-filtered, all-has}
+use Rattle.xdb_model.proofs.ListLaws.{all-append, all-filtered, all-has, found-all}
 use Rattle.xdb_model.proofs.ApartLaws.{flush-fits, compaction-fits, install-fits, apart-at}
-use Rattle.xdb_model.proofs.KnownLaws.{found-all}
 use Rattle.xdb_model.proofs.RunningLaws.{Running, running-after, running-first, installed-runs}
 use Rattle.xdb_model.proofs.LevelLaws.{levels-fit}
 use Rattle.xdb_model.proofs.LoadLaws.{begun-new}

@@ -199,10 +199,13 @@ opened-of false false none lacking pair met r o e = opened-behind none lacking p
 opened-reply : (p : Plain) (tables : List TableOps) (span : Option Bounds) (r : Reply) → outcome r ≡ succeeds → list_any (same_reply r) (load_open_replies p tables span None) ≡ true → r ≡ reply.Opened
 opened-reply p tables span r o e = opened-of (is_empty tables && is_none span) (leb 16 (length (open_loads p.loads))) (is_empty tables) (lacks_numbers p 1 || lacks_files p (length tables)) (first_overlap tables) (fence_met (fence tables span) p.loads) r o e
 
+pub opened-empty : (p : Plain) (tables : List TableOps) (span : Option Bounds) (r : Reply) → outcome r ≡ succeeds → list_any (same_reply r) (load_open_replies p tables span None) ≡ true → length tables ≡ 0
+opened-empty p tables span r o e = no-tables p tables span (subst (λ x. list_any (same_reply x) (load_open_replies p tables span None) ≡ true) (opened-reply p tables span r o e) e)
+
 opened-or : (p : Plain) (by : By) (load : List ℕ) (tables : List TableOps) (span : Option Bounds) (found : Option Load) (r : Reply) → outcome r ≡ succeeds → list_any (same_reply r) (load_open_replies p tables span found) ≡ true → LoadsBelow p.file p.loads → LoadsBelow p.file (cond (is_some found) (in_phase load waiting p.loads) (p.loads ++ new_load p by load tables span waiting ∷ []))
 opened-or p by load tables span (Some l) r o e h = loads-phase p.file load waiting p.loads h
 opened-or p by load tables span None r o e h =
-    let none = no-tables p tables span (subst (λ x. list_any (same_reply x) (load_open_replies p tables span None) ≡ true) (opened-reply p tables span r o e) e) in
+    let none = opened-empty p tables span r o e in
     loads-push p.file p.file p.loads (new_load p by load tables span waiting) (omega arith) h (omega arith)
 
 loads-by : (p : Plain) (by : By) (a : Act) (o : Outcome) (e : Option Changes) (r : Reply) → outcome r ≡ o → list_any (same_reply r) (may_reply p by a) ≡ true → LoadsBelow p.file p.loads → LoadsBelow (file_after p a o e) (loads_after p by a o)

@@ -15,8 +15,7 @@ use Rattle.xdb_plain.specs.declared.note.HoldNote.{HoldNote}
 use Rattle.xdb_plain.specs.declared.note.Note.{Note}
 use Rattle.xdb_plain.specs.declared.question.Question.{Question}
 use Rattle.xdb_plain.specs.declared.question.Question.TheVariants.{Get, Scan, RScan, Move}
-use Rattle.xdb_model.proofs.KnownLaws.{found-all}
-use Rattle.xdb_model.proofs.ListLaws.{all-append, all-filtered, all-has}
+use Rattle.xdb_model.proofs.ListLaws.{all-append, all-filtered, all-has, found-all}
 use Rattle.xdb_model.specs.Counted.{WasCurrent}
 
 -- ---- one step, where something holds of the versions before and behind it

@@ -1,18 +1,17 @@
 -- Known numbers lie below the next one, and no running job or open load has a number that was taken.
-use Rattle.std.proofs.Common.{◌≡◌, ℕ, suc, zero, ◌+◌, ◌<◌, ◌≤◌, Bool, true, false, cond, not, eqb, leb, ltb, ◌&&◌, List, [], ◌∷◌, ◌++◌, length, map, filter, Option, Some, None, refl, sym, subst, arith}
-use Rattle.std.proofs.lemmas.Bool.{and_parts, or_parts, not-true, ltb-true, lt-leb, and_left}
-use Rattle.std.specs.List.{list_any, list_all, find, range_with_len, AllByRecursion}
+use Rattle.std.proofs.Common.{◌≡◌, ℕ, ◌+◌, ◌<◌, ◌≤◌, Bool, true, false, cond, not, eqb, leb, ltb, ◌&&◌, List, [], ◌∷◌, ◌++◌, length, map, filter, Option, Some, None, refl, sym, subst, arith}
+use Rattle.std.proofs.lemmas.Bool.{and_parts, or_parts, not-true, lt-leb, and_left}
+use Rattle.std.specs.List.{list_any, AllByRecursion}
 use Rattle.xdb_key.specs.Bounds.{Bounds}
 use Rattle.xdb_key.specs.Groups.{Group}
-use Rattle.xdb_edit.specs.Changes.{Changes}
 use Rattle.xdb_edit.specs.Plans.{Planned}
-use Rattle.xdb_plain.specs.Changes.{after, known_after, taken_after, file_after, new_files, jobs_after, new_flush, new_compaction, cancelled_by, cancelled_job, span_of_load}
-use Rattle.xdb_plain.specs.Counts.{with_number, with_numbers, is_within, is_among, is_dead, is_owned, job_owns, load_owns, job_numbers, count}
+use Rattle.xdb_plain.specs.Changes.{after, known_after, taken_after, file_after, jobs_after, new_flush, new_compaction, cancelled_by, cancelled_job, span_of_load}
+use Rattle.xdb_plain.specs.Counts.{is_within, is_among, is_dead, is_owned, job_owns, load_owns, job_numbers, count}
 use Rattle.xdb_plain.specs.Legal.{Legal, after_all}
 use Rattle.xdb_plain.specs.Outcomes.{Outcome, succeeds, fails, cancels, outcome}
 use Rattle.xdb_plain.specs.Replies.{plan_now}
-use Rattle.xdb_plain.specs.State.{Plain, Load, Job, JobKind, flush_of, compaction_of, opening, open_loads, found_load, found_job, without_job, same_name}
-use Rattle.xdb_plain.specs.Steps.{MayStand, HasEdit, FitsEdit, PutsJob, InstallsLoad, FitsTried, FitsJobTried, FitsLoadTried, are_rising_numbers}
+use Rattle.xdb_plain.specs.State.{Plain, Job, opening, open_loads, without_job}
+use Rattle.xdb_plain.specs.Steps.{MayStand}
 use Rattle.xdb_plain.specs.declared.act.Act.{Act}
 use Rattle.xdb_plain.specs.declared.act.Act.TheVariants as act
 use Rattle.xdb_plain.specs.declared.note.Note.{Note}
@@ -20,7 +19,9 @@ use Rattle.xdb_plain.specs.declared.reply.Reply.{Reply}
 use Rattle.xdb_plain.specs.declared.reply.Reply.TheVariants as reply
 use Rattle.xdb_model.proofs.LegalLaws.{over-legal}
 use Rattle.xdb_model.proofs.CauseLaws.{took}
-use Rattle.xdb_model.proofs.FileLaws.{file-later, files-step, same-numbers}
+use Rattle.xdb_model.proofs.BackingLaws.{JobHas, LoadHas, range-all, known-all}
+use Rattle.xdb_model.proofs.FileLaws.{JobBelow, LoadBelow, file-later, files-step, same-numbers}
+use Rattle.xdb_model.proofs.ListLaws.{all-more}
 use Rattle.xdb_model.proofs.LoadLaws.{AreNamedOnce, LoadsFree, once-by, free-by, none-open}
 use Rattle.xdb_model.proofs.TakenLaws.{only-reap, first-passes}
 use Rattle.xdb_model.specs.Numbered.{FilesFit, TakenFit}
@@ -34,99 +35,16 @@ below-later : (low high : ℕ) (ns : List ℕ) → low ≤ high → Below low ns
 below-later low high [] le h = tt
 below-later low high (n ∷ ns) le h = let first = h.0 in (omega arith, below-later low high ns le h.1)
 
-below-append : (file : ℕ) (ms ns : List ℕ) → Below file ms → Below file ns → Below file (ms ++ ns)
-below-append file [] ns h k = k
-below-append file (m ∷ ms) ns h k = (h.0, below-append file ms ns h.1 k)
+low-jobs : (p : Plain) → FilesFit p → AllByRecursion (JobHas (λ n. n < p.file)) p.jobs
+low-jobs p fit = all-more (JobBelow p.file) _ p.jobs (λ j low. range-all (λ n. n < p.file) j.first (job_numbers j.kind) (λ i from to. omega arith)) fit.of_jobs
 
-below-put : (file n m : ℕ) (ms : List ℕ) (below same : Bool) → n < file → m < file → Below file ms → Below file (with_number n ms) → Below file (cond below (n ∷ m ∷ ms) (cond same (m ∷ ms) (m ∷ with_number n ms)))
-below-put file n m ms true same is first h more = (is, (first, h))
-below-put file n m ms false true is first h more = (first, h)
-below-put file n m ms false false is first h more = (first, more)
-
-below-with : (file n : ℕ) (ms : List ℕ) → n < file → Below file ms → Below file (with_number n ms)
-below-with file n [] is h = (is, tt)
-below-with file n (m ∷ ms) is h = below-put file n m ms (ltb n m) (eqb n m) is h.0 h.1 (below-with file n ms is h.1)
-
-below-with_all : (file : ℕ) (ns ms : List ℕ) → Below file ns → Below file ms → Below file (with_numbers ns ms)
-below-with_all file [] ms h k = k
-below-with_all file (n ∷ ns) ms h k = below-with_all file ns (with_number n ms) h.1 (below-with file n ms h.0 k)
-
-below-range : (file first len : ℕ) → first + len ≤ file → Below file (range_with_len first len)
-below-range file first zero h = tt
-below-range file first (suc len) h = (omega arith, below-range file (first + 1) len (omega arith))
-
-below-within : (file first len : ℕ) (ns : List ℕ) → first + len ≤ file → list_all (is_within first len) ns ≡ true → Below file ns
-below-within file first len [] le all = tt
-below-within file first len (n ∷ ns) le all =
-    let parts = and_parts (is_within first len n) (list_all (is_within first len) ns) all in
-    let under = ltb-true n (first + len) (and_parts (leb first n) (ltb n (first + len)) parts.0).1 in
-    (omega arith, below-within file first len ns le parts.1)
-
--- ---- what is found keeps what all keep
-
-found-kept : {A : Type 0} (P : A → Type 0) (y x : A) (rest : Option A) (t : Bool) → cond t (Some y) rest ≡ Some x → P y → (rest ≡ Some x → P x) → P x
-found-kept P y x rest true e is more = let same : y ≡ x = cc in subst P same is
-found-kept P y x rest false e is more = more e
-
-pub found-all : {A : Type 0} (P : A → Type 0) (test : A → Bool) (xs : List A) (x : A) → find test xs ≡ Some x → AllByRecursion P xs → P x
-found-all P test [] x e h = absurd (cc)
-found-all P test (y ∷ ys) x e h = found-kept P y x (find test ys) (test y) e h.0 (λ f. found-all P test ys x f h.1)
-
--- ---- an edit's new files
-
-put-files : (file : ℕ) (o : Option Job) (e : Changes) → PutsJob o e → ((j : Job) → o ≡ Some j → j.first + job_numbers j.kind ≤ file) → Below file e.new_backings
-put-files file None e is low = absurd is
-put-files file (Some j) e is low = by-kind j.first j.num j.kind e is (low j refl)
-  where
-    by-kind : (first num : ℕ) (kind : JobKind) (e : Changes) → PutsJob (Some (record { num = num; first = first; kind = kind })) e → first + job_numbers kind ≤ file → Below file e.new_backings
-    by-kind first num (flush_of group) e is low = subst (Below file) (sym is.new_backings) (omega arith, tt)
-    by-kind first num (compaction_of c) e is low =
-        let few = is.few in
-        subst (Below file) (sym is.new_backings) (below-range file first (length e.added) (omega arith))
-
-install-files : (p : Plain) (o : Option Load) (e : Changes) → InstallsLoad p o e → ((l : Load) → o ≡ Some l → l.first + length l.tables ≤ p.file) → Below p.file e.new_backings
-install-files p None e is low = absurd is
-install-files p (Some l) e is low = subst (Below p.file) (sym is.new_backings) (below-range p.file l.first (length l.tables) (low l refl))
-
-edit-files : (p : Plain) (a : Act) (o : Option Changes) → FilesFit p → HasEdit p a o → Below p.file (new_files o)
-edit-files p a None fit has = absurd has
-edit-files p (act.Put job) (Some e) fit has =
-    put-files p.file (found_job job p.jobs) e has.1 (λ j found. found-all (λ (x : Job). x.first + job_numbers x.kind ≤ p.file) (λ (x : Job). eqb x.num job) p.jobs j found fit.of_jobs)
-edit-files p (act.Install load) (Some e) fit has =
-    install-files p (found_load load p.loads) e has.1 (λ l found. found-all (λ (x : Load). x.first + length x.tables ≤ p.file) (λ (x : Load). same_name x.name load) p.loads l found fit.of_loads)
-edit-files p _ (Some e) fit has = absurd has.1
-
-files-by : (p : Plain) (a : Act) (r : Reply) (o : Option Changes) → FilesFit p → FitsEdit p a r o → Below p.file (new_files o)
-files-by p a reply.Installed o fit fits = edit-files p a o fit fits
-files-by p a _ o fit fits = subst (λ (x : Option Changes). Below p.file (new_files x)) (sym fits) tt
-
--- ---- the tried numbers
-
-job-tried : (file : ℕ) (o : Option Job) (tried : List ℕ) → FitsJobTried o tried → ((j : Job) → o ≡ Some j → j.first + job_numbers j.kind ≤ file) → Below file tried
-job-tried file None tried fits low = subst (Below file) (sym fits) tt
-job-tried file (Some j) tried fits low =
-    below-within file j.first (job_numbers j.kind) tried (low j refl) (and_parts (are_rising_numbers tried) (list_all (is_within j.first (job_numbers j.kind)) tried) fits).1
-
-load-tried : (file : ℕ) (o : Option Load) (tried : List ℕ) → FitsLoadTried o tried → ((l : Load) → o ≡ Some l → l.first + length l.tables ≤ file) → Below file tried
-load-tried file None tried fits low = subst (Below file) (sym fits) tt
-load-tried file (Some l) tried fits low =
-    below-within file l.first (length l.tables) tried (low l refl) (and_parts (are_rising_numbers tried) (list_all (is_within l.first (length l.tables)) tried) fits).1
-
-tried-by : (p : Plain) (a : Act) (o : Outcome) (tried : List ℕ) → FilesFit p → FitsTried p a o tried → Below p.file tried
-tried-by p (act.Build job) fails tried fit fits =
-    job-tried p.file (found_job job p.jobs) tried fits (λ j found. found-all (λ (x : Job). x.first + job_numbers x.kind ≤ p.file) (λ (x : Job). eqb x.num job) p.jobs j found fit.of_jobs)
-tried-by p (act.Put job) cancels tried fit fits =
-    job-tried p.file (found_job job p.jobs) tried fits (λ j found. found-all (λ (x : Job). x.first + job_numbers x.kind ≤ p.file) (λ (x : Job). eqb x.num job) p.jobs j found fit.of_jobs)
-tried-by p (act.LoadOpen load tables span) fails tried fit fits =
-    load-tried p.file (found_load load p.loads) tried fits (λ l found. found-all (λ (x : Load). x.first + length x.tables ≤ p.file) (λ (x : Load). same_name x.name load) p.loads l found fit.of_loads)
-tried-by p _ _ tried fit fits = subst (Below p.file) (sym fits) tt
+low-loads : (p : Plain) → FilesFit p → AllByRecursion (LoadHas (λ n. n < p.file)) p.loads
+low-loads p fit = all-more (LoadBelow p.file) _ p.loads (λ l low. range-all (λ n. n < p.file) l.first (length l.tables) (λ i from to. omega arith)) fit.of_loads
 
 known-by : (p : Plain) (note : Note) → MayStand p note → FilesFit p → Below p.file p.known → Below (file_after p note.act (outcome note.reply) note.edit) (known_after p note)
 known-by p note may fit h =
     below-later p.file (file_after p note.act (outcome note.reply) note.edit) (known_after p note) (file-later p note.act (outcome note.reply) note.edit)
-    (below-with_all p.file (new_files note.edit ++ note.tried) p.known
-    (below-append p.file (new_files note.edit) note.tried (files-by p note.act note.reply note.edit fit may.edit) (tried-by p note.act (outcome note.reply) note.tried fit may.tried))
-    h)
+    (known-all (λ n. n < p.file) p note may (low-jobs p fit) (low-loads p fit) h)
 
 -- ---- who has a number
 

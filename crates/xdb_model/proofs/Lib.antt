@@ -10,6 +10,7 @@ pub mod QuestionLaws
 pub mod RefusalLaws
 pub mod TakenLaws
 pub mod LoadLaws
+pub mod BackingLaws
 pub mod KnownLaws
 pub mod ExcisedLaws
 pub mod ListLaws
@@ -29,3 +30,7 @@ pub mod InputLaws
 pub mod HeldLaws
 pub mod InUseLaws
 pub mod FlushLaws
+pub mod UpkeepLaws
+pub mod ReservedLaws
+pub mod RemovalLaws
+pub mod ClientLaws

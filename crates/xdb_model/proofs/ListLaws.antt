@@ -1,6 +1,6 @@
 -- What holds of each element of a list, and of each two.
-use Rattle.std.proofs.Common.{◌≡◌, Bool, true, false, cond, not, List, [], ◌∷◌, ◌++◌, map, filter, refl, sym, subst, ◌∙◌, inl, inr, ◌⊎◌}
-use Rattle.std.specs.List.{AllByRecursion}
+use Rattle.std.proofs.Common.{◌≡◌, Bool, true, false, cond, not, List, [], ◌∷◌, ◌++◌, map, filter, Option, Some, refl, sym, subst, ◌∙◌, inl, inr, ◌⊎◌}
+use Rattle.std.specs.List.{AllByRecursion, find}
 use Rattle.xdb_rangedel.specs.Members.{Has}
 use Rattle.xdb_model.specs.Apart.{Pairwise}
 
@@ -56,8 +56,17 @@ all-either P test [] pass fail = tt
 all-either P test (x ∷ xs) pass fail =
     all-back P x (filter test xs) (filter (λ y. not (test y)) xs) xs (test x) (λ p f. all-either P test xs p f) pass fail
 
-all-kept : {A : Type 0} (P : A → Type 0) (test : A → Bool) (xs : List A) → AllByRecursion P xs → AllByRecursion P (filter test xs)
+pub all-kept : {A : Type 0} (P : A → Type 0) (test : A → Bool) (xs : List A) → AllByRecursion P xs → AllByRecursion P (filter test xs)
 all-kept P test xs all = all-filtered P test xs (λ x has passes. all-has P xs x has all)
+
+-- what is found keeps what all keep
+found-kept : {A : Type 0} (P : A → Type 0) (y x : A) (rest : Option A) (t : Bool) → cond t (Some y) rest ≡ Some x → P y → (rest ≡ Some x → P x) → P x
+found-kept P y x rest true e is more = let same : y ≡ x = cc in subst P same is
+found-kept P y x rest false e is more = more e
+
+pub found-all : {A : Type 0} (P : A → Type 0) (test : A → Bool) (xs : List A) (x : A) → find test xs ≡ Some x → AllByRecursion P xs → P x
+found-all P test [] x e h = absurd (cc)
+found-all P test (y ∷ ys) x e h = found-kept P y x (find test ys) (test y) e h.0 (λ f. found-all P test ys x f h.1)
 
 -- ---- what holds of each two
 

@@ -1,48 +1,34 @@
 -- Behind the note that takes a number no version names its file.
-use Rattle.std.proofs.Common.{◌≡◌, ℕ, zero, suc, ◌+◌, ◌<◌, ◌≤◌, Bool, true, false, cond, not, eqb, ◌&&◌, List, [], ◌∷◌, ◌++◌, length, map, filter, Option, Some, None, refl, sym, ap, subst, ◌∙◌, inl, inr, arith}
-use Rattle.std.proofs.lemmas.Bool.{false≢true, and_parts, and_from, or_from, not-true, cases_Bool, eqb-true, le-leb, lt-ltb}
-use Rattle.std.specs.List.{list_any, list_all, flat_map, range_with_len, AllByRecursion}
-use Rattle.xdb_key.specs.Bounds.{Bounds, covers}
-use Rattle.xdb_meta.specs.Table.{Table, IsTable, bounds_of}
+use Rattle.std.proofs.Common.{◌≡◌, ℕ, ◌+◌, ◌<◌, ◌≤◌, Bool, true, false, cond, not, eqb, ◌&&◌, List, [], ◌∷◌, ◌++◌, length, map, filter, Option, Some, None, refl, sym, ap, subst, ◌∙◌, inl, inr, arith}
+use Rattle.std.proofs.lemmas.Bool.{false≢true, and_parts, and_from, or_from, cases_Bool, eqb-true, le-leb, lt-ltb}
+use Rattle.std.specs.List.{list_any, flat_map, range_with_len, AllByRecursion}
+use Rattle.xdb_meta.specs.Table.{Table}
 use Rattle.xdb_edit.specs.Changes.{Changes}
-use Rattle.xdb_edit.specs.Versions.{LevelLists, tables_of}
+use Rattle.xdb_edit.specs.Versions.{LevelLists}
 use Rattle.xdb_plain.specs.Changes.{after}
 use Rattle.xdb_plain.specs.Counts.{is_within, is_among, is_dead, is_owned, load_owns, job_numbers, count, backings, distinct}
-use Rattle.xdb_plain.specs.Edits.{IsCompactionOf, IsInstallOf, is_flushed, is_output, is_empty, are_halves, crossed, running_hulls, virtual_in, physical_in, halved, rest}
+use Rattle.xdb_plain.specs.Edits.{rest}
 use Rattle.xdb_plain.specs.Holds.{version_after}
 use Rattle.xdb_plain.specs.Legal.{Legal, after_all}
 use Rattle.xdb_plain.specs.Outcomes.{outcome}
-use Rattle.xdb_plain.specs.Replies.{may_reply, same_reply, install_replies}
-use Rattle.xdb_plain.specs.State.{Plain, Version, Load, Phase, being_opened, waiting, is_in, is_open, Job, JobKind, flush_of, compaction_of, Compaction, opening, found_load, found_job, same_name}
-use Rattle.xdb_plain.specs.Steps.{MayStand, HasEdit, FitsEdit, PutsJob, InstallsLoad}
-use Rattle.xdb_plain.specs.Tables.{TableOps}
-use Rattle.xdb_plain.specs.declared.act.Act.{Act}
-use Rattle.xdb_plain.specs.declared.act.Act.TheVariants as act
-use Rattle.xdb_plain.specs.declared.act.By.{By}
+use Rattle.xdb_plain.specs.State.{Plain, Version, opening}
+use Rattle.xdb_plain.specs.Steps.{MayStand}
 use Rattle.xdb_plain.specs.declared.note.Note.{Note}
-use Rattle.xdb_plain.specs.declared.reply.Reply.{Reply}
 use Rattle.xdb_plain.specs.declared.reply.Reply.TheVariants as reply
-use Rattle.xdb_model.proofs.ListLaws.{all-both, all-either, all-more, all-unmap}
-use Rattle.xdb_model.proofs.CauseLaws.{took, load_of}
+use Rattle.xdb_model.proofs.ListLaws.{all-more, all-unmap}
+use Rattle.xdb_model.proofs.BackingLaws.{JobHas, OpenHas, AddsOn, range-all, files-by, adds-on}
+use Rattle.xdb_model.proofs.CauseLaws.{took}
 use Rattle.xdb_model.proofs.EditedLaws.{levels-all}
 use Rattle.xdb_model.proofs.FileLaws.{file-later}
-use Rattle.xdb_model.proofs.KnownLaws.{Fit, fit-all, fit-first, JobFree, JobsFree, jobs-by, not-within, found-all, first-all, dead-free, dead-open}
+use Rattle.xdb_model.proofs.KnownLaws.{Fit, fit-all, fit-first, JobFree, JobsFree, jobs-by, not-within, first-all, dead-free, dead-open}
 use Rattle.xdb_model.proofs.LoadLaws.{AreNamedOnce, LoadFree, LoadsFree, once-by, free-by}
-use Rattle.xdb_model.proofs.PartLaws.{crossed-all, halves-all, part-tells, loaded-all}
 use Rattle.xdb_model.proofs.TakenLaws.{only-reap, first-passes}
 use Rattle.xdb_model.specs.Named.{IsUnnamed, AddsNone}
 
 abbrev pub Off : ℕ → Table → Type 0
 Off n t = eqb t.backing n ≡ false
 
--- ---- a table in a file of its own
-
-not-false : (b : Bool) → not b ≡ false → b ≡ true
-not-false true h = refl
-not-false false h = absurd (false≢true (sym h))
-
-own-file : (t : Table) → IsTable t → t.virt ≡ false → t.backing ≡ t.num
-own-file t is own = eqb-true t.backing t.num (not-false (eqb t.backing t.num) (sym is.virt ∙ own))
+-- ---- a number that others than these have
 
 pub within-other : (first len n m : ℕ) → is_within first len n ≡ false → first ≤ m → m < first + len → eqb m n ≡ false
 within-other first len n m off low high = elim (cases_Bool (eqb m n)) [
@@ -52,89 +38,11 @@ within-other first len n m off low high = elim (cases_Bool (eqb m n)) [
   | inr other ↦ other
 ]
 
-own-off : (first len n : ℕ) (t : Table) → IsTable t → t.virt ≡ false → is_within first len n ≡ false → first ≤ t.num → t.num < first + len → Off n t
-own-off first len n t is own off low high = subst (λ b. eqb b n ≡ false) (sym (own-file t is own)) (within-other first len n t.num off low high)
+abbrev Other : ℕ → ℕ → Type 0
+Other n m = eqb m n ≡ false
 
--- ---- what a flush and a compaction add
-
-flush-off : (first n : ℕ) (added : List (ℕ × Table)) → is_flushed first added ≡ true → is_within first 1 n ≡ false → AllByRecursion (λ a. IsTable a.1) added → AllByRecursion (λ a. Off n a.1) added
-flush-off first n [] is off tables = tt
-flush-off first n (a ∷ []) is off tables =
-    let parts = and_parts (eqb a.0 0) (eqb a.1.num first && not a.1.virt) is in
-    let own = and_parts (eqb a.1.num first) (not a.1.virt) parts.1 in
-    let same = eqb-true a.1.num first own.0 in
-    (own-off first 1 n a.1 tables.0 (not-true a.1.virt own.1) off (omega arith) (omega arith), tt)
-flush-off first n (a ∷ b ∷ rest) is off tables = absurd (false≢true is)
-
-pub range-all : (P : ℕ → Type 0) (first len : ℕ) → ((i : ℕ) → first ≤ i → i < first + len → P i) → AllByRecursion P (range_with_len first len)
-range-all P first zero is = tt
-range-all P first (suc len) is = (is first (omega arith) (omega arith), range-all P (first + 1) len (λ i from to. is i (omega arith) (omega arith)))
-
-outputs-off : (first len n : ℕ) (c : Compaction) (added : List (ℕ × Table)) → list_all (is_output c) added ≡ true → is_within first 64 n ≡ false → len ≤ 64 → AllByRecursion (λ a. IsTable a.1) added
-    → AllByRecursion (λ a. (first ≤ a.1.num) × (a.1.num < first + len)) added → AllByRecursion (λ a. Off n a.1) added
-outputs-off first len n c [] outputs off few tables nums = tt
-outputs-off first len n c (a ∷ added) outputs off few tables nums =
-    let parts = and_parts (is_output c a) (list_all (is_output c) added) outputs in
-    let inside = and_parts (eqb a.0 (c.level + 1) && not a.1.virt) (covers c.hull (bounds_of a.1)) parts.0 in
-    let own = and_parts (eqb a.0 (c.level + 1)) (not a.1.virt) inside.0 in
-    let low = nums.0.0 in
-    let high = nums.0.1 in
-    (own-off first 64 n a.1 tables.0 (not-true a.1.virt own.1) off low (omega arith), outputs-off first len n c added parts.1 off few tables.1 nums.1)
-
-compaction-off : (job : Job) (c : Compaction) (n : ℕ) (e : Changes) → IsCompactionOf job c e → is_within job.first 64 n ≡ false → AllByRecursion (λ a. IsTable a.1) e.added → AllByRecursion (λ a. Off n a.1) e.added
-compaction-off job c n e is off tables =
-    let nums = range-all (λ m. (job.first ≤ m) × (m < job.first + length e.added)) job.first (length e.added) (λ i from to. (from, to)) in
-    let each = all-unmap (λ m. (job.first ≤ m) × (m < job.first + length e.added)) (λ a. a.1.num) e.added (subst (AllByRecursion (λ m. (job.first ≤ m) × (m < job.first + length e.added))) (sym is.numbers) nums) in
-    outputs-off job.first (length e.added) n c e.added is.outputs off is.few tables each
-
-put-off : (n : ℕ) (o : Option Job) (e : Changes) → PutsJob o e → ((j : Job) → o ≡ Some j → JobFree n j) → AllByRecursion (λ a. IsTable a.1) e.added → AllByRecursion (λ a. Off n a.1) e.added
-put-off n None e is free tables = absurd is
-put-off n (Some j) e is free tables = by-kind j.first j.num j.kind is (free j refl)
-  where
-    by-kind : (first num : ℕ) (kind : JobKind) → PutsJob (Some (record { num = num; first = first; kind = kind })) e → is_within first (job_numbers kind) n ≡ false → AllByRecursion (λ a. Off n a.1) e.added
-    by-kind first num (flush_of group) is off = flush-off first n e.added is.added off tables
-    by-kind first num (compaction_of c) is off = compaction-off (record { num = num; first = first; kind = compaction_of c }) c n e is off tables
-
--- ---- what a load adds
-
-level-of : (P : Table → Type 0) (levels : LevelLists) (j : ℕ) → AllByRecursion (AllByRecursion P) levels → AllByRecursion P (tables_of levels j)
-level-of P [] j all = tt
-level-of P (ts ∷ levels) zero all = all.0
-level-of P (ts ∷ levels) (suc j) all = level-of P levels j all.1
-
-crossed-off : (n : ℕ) (levels : LevelLists) (span : Option Bounds) → AllByRecursion (AllByRecursion (Off n)) levels → AllByRecursion (λ old. Off n old.1) (crossed levels span)
-crossed-off n levels None all = tt
-crossed-off n levels (Some span) all = crossed-all (λ old. Off n old.1) span 0 levels (λ j i is. all-more (Off n) _ (tables_of levels j) (λ t off meets. off) (level-of (Off n) levels j all))
-
-halves-off : (n file : ℕ) (span : Option Bounds) (olds parts : List (ℕ × Table)) → AllByRecursion (λ old. Off n old.1) olds → are_halves file span olds parts ≡ true → AllByRecursion (λ a. Off n a.1) parts
-halves-off n file None olds parts all none = none-all parts none
-  where
-    none-all : (parts : List (ℕ × Table)) → is_empty parts ≡ true → AllByRecursion (λ a. Off n a.1) parts
-    none-all [] none = tt
-    none-all (x ∷ xs) none = absurd (false≢true none)
-halves-off n file (Some span) olds parts all none =
-    halves-all (λ a. Off n a.1) span olds (rest file parts) (all-more (λ old. Off n old.1) _ olds (λ old off k x is. subst (λ b. eqb b n ≡ false) (sym (part-tells k old x is).same_backing) off) all) none
-
-install-off : (p : Plain) (l : Load) (n : ℕ) (e : Changes) → IsInstallOf p l e → load_owns n l ≡ false → AllByRecursion (AllByRecursion (Off n)) p.current.levels → AllByRecursion (λ a. IsTable a.1) e.added → AllByRecursion (λ a. Off n a.1) e.added
-install-off p l n e is off all tables =
-    let halves = halves-off n p.file l.span (crossed p.current.levels l.span) (virtual_in e) (crossed-off n p.current.levels l.span all) is.halves in
-    let own = loaded-all (λ a. IsTable a.1 → Off n a.1) (halved p.current.levels e) (running_hulls p.jobs) l.first p.next l.tables (physical_in e) is.loaded is.no_more
-    (λ k t a from to has stands table. let same = stands.same_num in own-off l.first (length l.tables) n a.1 table stands.in_own_file off (omega arith) (omega arith)) in
-    all-both (λ a. IsTable a.1 → Off n a.1) (λ a. IsTable a.1) (λ a. Off n a.1) e.added (λ a f t. f t)
-    (all-either (λ a. IsTable a.1 → Off n a.1) (λ a. a.1.virt) e.added (all-more (λ a. Off n a.1) _ (virtual_in e) (λ a off table. off) halves) own)
-    tables
-
-pub installed-open : (p : Plain) (name : List ℕ) (by : By) (tables : List TableOps) (span : Option Bounds) (first : ℕ) (phase : Phase) → list_any (same_reply reply.Installed) (install_replies p (Some (load_of name by tables span first phase))) ≡ true → is_open (load_of name by tables span first phase) ≡ true
-installed-open p name by tables span first being_opened e = absurd (false≢true e)
-installed-open p name by tables span first waiting e = refl
-installed-open p name by tables span first is_in e = absurd (false≢true e)
-
-load-off : (p : Plain) (o : Option Load) (n : ℕ) (e : Changes) → InstallsLoad p o e → list_any (same_reply reply.Installed) (install_replies p o) ≡ true → ((l : Load) → o ≡ Some l → LoadFree n l) → AllByRecursion (AllByRecursion (Off n)) p.current.levels → AllByRecursion (λ a. IsTable a.1) e.added
-    → AllByRecursion (λ a. Off n a.1) e.added
-load-off p None n e is may free all tables = absurd is
-load-off p (Some l) n e is may free all tables =
-    let op = installed-open p l.name l.by l.tables l.span l.first l.phase may in
-    install-off p l n e is (sym (ap (λ b. b && load_owns n l) op) ∙ free l refl) all tables
+others-in : (n first len : ℕ) → is_within first len n ≡ false → AllByRecursion (Other n) (range_with_len first len)
+others-in n first len off = range-all (Other n) first len (λ m from to. within-other first len n m off from to)
 
 -- ---- a number that nobody has, and that no table of the current version stands on
 
@@ -144,24 +52,20 @@ pub record Gone (n : ℕ) (p : Plain) : Type 0 where
   pub of_loads : LoadsFree n p.loads
   pub unnamed : AllByRecursion (AllByRecursion (Off n)) p.current.levels
 
-edit-off : (n : ℕ) (p : Plain) (by : By) (a : Act) (o : Option Changes) → Gone n p → HasEdit p a o → list_any (same_reply reply.Installed) (may_reply p by a) ≡ true → AddsNone n o
-edit-off n p by a None gone has may = absurd has
-edit-off n p by (act.Put job) (Some e) gone has may =
-    put-off n (found_job job p.jobs) e has.1 (λ j found. found-all (JobFree n) (λ (x : Job). eqb x.num job) p.jobs j found gone.of_jobs) has.0.tables
-edit-off n p by (act.Install load) (Some e) gone has may =
-    load-off p (found_load load p.loads) n e has.1 may (λ l found. found-all (LoadFree n) (λ (x : Load). same_name x.name load) p.loads l found gone.of_loads) gone.unnamed has.0.tables
-edit-off n p by _ (Some e) gone has may = absurd has.1
-
-adds-none : (n : ℕ) (p : Plain) (by : By) (a : Act) (r : Reply) (o : Option Changes) → Gone n p → FitsEdit p a r o → list_any (same_reply r) (may_reply p by a) ≡ true → AddsNone n o
-adds-none n p by a reply.Installed o gone fits may = edit-off n p by a o gone fits may
-adds-none n p by a _ o gone fits may = subst (AddsNone n) (sym fits) tt
+adds-others : (n : ℕ) (o : Option Changes) → AddsOn (Other n) o → AddsNone n o
+adds-others n None on = tt
+adds-others n (Some e) on = on
 
 pub unnamed-after : (n : ℕ) (v : Version) (o : Option Changes) → AddsNone n o → AllByRecursion (AllByRecursion (Off n)) v.levels → AllByRecursion (AllByRecursion (Off n)) (version_after v o).levels
 unnamed-after n v None none all = all
 unnamed-after n v (Some e) none all = levels-all (Off n) 0 e v.levels none all
 
 pub gone-adds : (n : ℕ) (p : Plain) (note : Note) → MayStand p note → Gone n p → AddsNone n note.edit
-gone-adds n p note may gone = adds-none n p note.by note.act note.reply note.edit gone may.edit may.reply
+gone-adds n p note may gone =
+    let jobs = all-more (JobFree n) (JobHas (Other n)) p.jobs (λ j free. others-in n j.first (job_numbers j.kind) free) gone.of_jobs in
+    let loads = all-more (LoadFree n) (OpenHas (Other n)) p.loads (λ l free is. others-in n l.first (length l.tables) (sym (ap (λ b. b && load_owns n l) is) ∙ free)) gone.of_loads in
+    let made = files-by (Other n) p note.by note.act note.reply note.edit jobs loads may.edit may.reply in
+    adds-others n note.edit (adds-on (Other n) p note.act note.reply note.edit may.edit made gone.unnamed)
 
 pub gone-after : (n : ℕ) (p : Plain) (note : Note) → MayStand p note → AreNamedOnce p.loads → Gone n p → Gone n (after p note)
 gone-after n p note may once gone =

@@ -33,7 +33,8 @@ use Rattle.xdb_model.proofs.FileLaws.{JobBelow, LoadBelow, file-later}
 use Rattle.xdb_model.proofs.KnownLaws.{Fit, fit-after, fit-first, JobFree, JobsFree, jobs-by, jobs-installed, not-within}
 use Rattle.xdb_model.proofs.ListLaws.{all-either, all-from_has, all-has, all-map, all-more, all-unmap, pairs-more, same-or}
 use Rattle.xdb_model.proofs.LoadLaws.{AreNamedOnce, LoadFree, LoadsFree, free-by, free-installed}
-use Rattle.xdb_model.proofs.NamedLaws.{range-all, within-other, installed-open, legal-parts, after-parts}
+use Rattle.xdb_model.proofs.BackingLaws.{range-all, installed-open}
+use Rattle.xdb_model.proofs.NamedLaws.{within-other, legal-parts, after-parts}
 use Rattle.xdb_model.proofs.OwnerLaws.{OwnersFit, owners-by, JobsBeside, LoadsBeside, JobBesideLoad, beside-turned, beside-out, out-of}
 use Rattle.xdb_model.proofs.PairLaws.{EachAt, level-pairs, edited-at}
 use Rattle.xdb_model.proofs.PartLaws.{loaded-all}

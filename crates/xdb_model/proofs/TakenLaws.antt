@@ -55,7 +55,7 @@ distinct-push (m ∷ ns) n h new =
     let parts = or_parts (eqb m n) (is_among n ns) new in
     (among-push m n ns h.0 (ne_eqb n m (λ e. eqb-false m n parts.0 (sym e))), distinct-push ns n h.1 parts.1)
 
-not-taken : (p : Plain) (n : ℕ) → is_dead p n ≡ true → is_among n p.taken ≡ false
+pub not-taken : (p : Plain) (n : ℕ) → is_dead p n ≡ true → is_among n p.taken ≡ false
 not-taken p n e = not-true (is_among n p.taken) (and_parts (eqb (count p n) 0 && not (is_owned p n)) (not (is_among n p.taken)) e).1
 
 taken-by : (p : Plain) (note : Note) (r : Reply) → note.reply ≡ r → MayStand p note → AreDistinct p.taken → AreDistinct (taken_after p.taken r)

@@ -1,8 +1,11 @@
 pub mod Apart
 pub mod Causes
+pub mod Clients
 pub mod Counted
 pub mod Flushes
 pub mod Named
 pub mod Numbered
 pub mod Progress
 pub mod Refusals
+pub mod Reserved
+pub mod Upkeep

@@ -2,7 +2,10 @@
 #![tactic(auto)]
 
 pub mod causes;
+pub mod clients;
 pub mod counts;
+pub mod files;
 pub mod numbers;
 pub mod refusals;
+pub mod upkeep;
 pub mod versions;
