@@ -191,17 +191,17 @@ snapshot_refusals_text =
     ∷ codes "c1 drop s1 -> no-such"
     ∷ []
 
+-- the name of the snapshot of a number
+abbrev pub many_name : ℕ → List ℕ
+many_name n = (97 + n / 8) ∷ (97 + n % 8) ∷ []
+
 abbrev pub many_snap : ℕ → Note
-many_snap n = holding (c1 (Snap ((97 + n / 8) ∷ (97 + n % 8) ∷ []) (from_to (codes "a") (codes "m") ∷ [])) reply.FileOnly) (Hold n 0 ∷ [])
+many_snap n = holding (c1 (Snap (many_name n) (from_to (codes "a") (codes "m") ∷ [])) reply.FileOnly) (Hold n 0 ∷ [])
 
 -- so many snapshots are made, and the next is one too many
 abbrev pub too_many_snapshots : ℕ → List Note
 too_many_snapshots count =
     map many_snap (range_with_len 1 count) ++ c1 (Snap (codes "last") (from_to (codes "a") (codes "m") ∷ [])) reply.TooMany ∷ []
-
--- the name of the snapshot of a number
-abbrev pub many_name : ℕ → List ℕ
-many_name n = (97 + n / 8) ∷ (97 + n % 8) ∷ []
 
 abbrev pub too_many_snapshots_script : ℕ → List Line
 too_many_snapshots_script count =

@@ -6,4 +6,4 @@ use Rattle.xdb_rows.proofs.snapshots.cursor_over_excise.Goals as goal
 
 pub returns : goal.returns
 unfolding digits
-returns c = record { script = search rules; right = search (rules, gets, known_entries); holds = search rules; run = search rules; prints = refl }
+returns c = record { script = search rules; right = search (rules, gets, known_entries); holds = search rules; run = ((search rules, (search rules, (search rules, (search rules, (search rules, (search rules, (search rules, (search rules, (search rules, search rules))))))))), search rules); prints = refl }
