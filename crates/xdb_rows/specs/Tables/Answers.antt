@@ -248,6 +248,7 @@ places_kept =
     -- a move that fails leaves the place
     walk_on (ask_held 2 (Move (codes "k") Next) false (Hold 2 0) ∷ ask_answered 2 (Move (codes "k") Next) 2 reply.Fault ∷ []) 3 at_d
     ∷ walk_on (ask_held 2 (Move (codes "k") Next) false (Hold 2 0) ∷ ask_answered 2 (Move (codes "k") Next) 2 reply.Memory ∷ []) 3 at_d
+    ∷ walk_on (ask_held 2 (Move (codes "k") Last) false (Hold 2 0) ∷ ask_answered 2 (Move (codes "k") Last) 2 (reply.Damaged 1 0) ∷ []) 3 at_d
     ∷ walk_on (ask_held 2 (Move (codes "k") Last) true (Hold 2 0) ∷ holding (db (Work 2) reply.Fault) (Release 2 ∷ []) ∷ []) 3 at_d
     -- a move in parts leads on once it is answered
     ∷ walk_on (ask_held 2 (Move (codes "k") Next) true (Hold 2 0) ∷ c1 (Settle 2) reply.NotYet
