@@ -1,11 +1,13 @@
 -- What reads and moves find.
-use Rattle.std.specs.Prelude.{ℕ, ◌+◌, true, false, List, [], ◌∷◌, ◌++◌, Option, None, Some, codes}
+use Rattle.std.specs.Prelude.{◌≡◌, ℕ, ◌+◌, true, false, List, [], ◌∷◌, ◌++◌, Option, None, Some, codes}
+use Rattle.std.specs.FinMap as map
 use Rattle.xdb_key.specs.declared.op.Op.{Op}
 use Rattle.xdb_key.specs.declared.op.Op.TheVariants.{Set, Del, DelSpan}
 use Rattle.xdb_edit.specs.Changes.{changes}
 use Rattle.xdb_meta.specs.Table.{Table}
+use Rattle.xdb_plain.specs.PlainMap.{loaded}
 use Rattle.xdb_plain.specs.Tables.{TableOps, table_ops, ops_bounds}
-use Rattle.xdb_plain.specs.declared.act.Act.TheVariants.{Commit, Ask, Work, Settle, Snap, Drop, Cursor, Shut, Install, LoadOpen}
+use Rattle.xdb_plain.specs.declared.act.Act.TheVariants.{Ask, Work, Settle, Snap, Drop, Cursor, Shut, Install}
 use Rattle.xdb_plain.specs.declared.answer.Answer.{Answer}
 use Rattle.xdb_plain.specs.declared.answer.Answer.TheVariants.{Value, Absent, Found, Pair, End}
 use Rattle.xdb_plain.specs.declared.note.HoldNote.TheVariants.{Hold, Release}
@@ -14,10 +16,9 @@ use Rattle.xdb_plain.specs.declared.question.Question.{Question}
 use Rattle.xdb_plain.specs.declared.question.Question.TheVariants.{Scan, RScan, Move}
 use Rattle.xdb_plain.specs.declared.question.Step.{Step}
 use Rattle.xdb_plain.specs.declared.question.Step.TheVariants.{First, Last, Next, Prev, Seek, SeekLt}
-use Rattle.xdb_plain.specs.declared.reply.Reply.{Reply}
 use Rattle.xdb_plain.specs.declared.reply.Reply.TheVariants as reply
 use Rattle.xdb_rows.specs.Judged.{Case, case, step, wrong_answer}
-use Rattle.xdb_rows.specs.Notes.{c1, c2, db, note, holding, changing, from_to, from_upto, loaded_table, put, del, delspan, batch, read, get, get_at, scan, let_go, ask_held, ask_answered, excise, load, install, half_of}
+use Rattle.xdb_rows.specs.Notes.{c1, c2, db, holding, from_to, from_upto, loaded_table, put, del, delspan, batch, read, get, get_at, scan, let_go, ask_held, ask_answered, excise, load, install, half_of}
 
 -- The question is asked behind the history, of the version, and has the answer.
 abbrev pub told_of : ℕ → List Note → ℕ → Question → Answer → Case
@@ -373,3 +374,12 @@ spans_told =
     ++ install (codes "l3") (changes [] (3 ∷ []) ((6, key_loaded 3 (codes "g")) ∷ [])) ∷ []) 1 all
     (Found ((codes "b", codes "1") ∷ (codes "d", codes "2") ∷ (codes "f", codes "3") ∷ (codes "g", codes "8") ∷ []))
     ∷ []
+
+-- Tables act one after the other, each with its range deletes first. No history tells, since tables of a load that
+-- meet are refused; the map does.
+abbrev pub TablesInTurn : Type 0
+TablesInTurn =
+    map.entries (loaded (map.insert map.empty (codes "a") (codes "0"))
+    (table_ops (codes "t1") (Set (codes "b") (codes "1") ∷ Set (codes "c") (codes "1") ∷ [])
+    ∷ table_ops (codes "t2") (Set (codes "c") (codes "2") ∷ DelSpan (from_to (codes "a") (codes "c")) ∷ []) ∷ []) None)
+    ≡ (codes "c", codes "2") ∷ []
