@@ -15,6 +15,9 @@ use Rattle.xdb_plain.specs.declared.note.HoldNote.TheVariants.{Hold, Release}
 use Rattle.xdb_plain.specs.declared.note.Note.{Note}
 use Rattle.xdb_plain.specs.declared.question.Question.TheVariants.{Scan}
 use Rattle.xdb_plain.specs.declared.reply.Reply.TheVariants as reply
+use Rattle.xdb_plain.specs.declared.script.Cmd.TheVariants as cmd
+use Rattle.xdb_plain.specs.declared.script.Line.{Line}
+use Rattle.xdb_rows.specs.Lines as line
 use Rattle.xdb_rows.specs.Notes.{c1, c2, db, holding, changing, trying, from_to, from_upto, file_table, table_of_key, loaded_table, half_of, put, delspan, batch, read, get, scan, put_flush, flushed, excise, install, load, levels_0, levels_0_6, compact_l0, let_go, ask_held}
 
 abbrev pub five_keys : List Op
@@ -41,6 +44,28 @@ two_halves =
     ∷ db (Show show.Counts) (reply.Counts ((1, 2) ∷ []))
     ∷ read 1 (scan (from_to (codes "a") (codes "z"))) 1 2 (Found ((codes "a", codes "1") ∷ (codes "d", codes "4") ∷ (codes "e", codes "5") ∷ []))
 
+abbrev pub two_halves_script : List Line
+two_halves_script =
+    line.lines (line.c1 (line.batch five_keys)
+    ∷ line.flushed 1
+    ++ line.c1 (line.excise (codes "l1") (from_to (codes "b") (codes "d")))
+    ∷ line.c1 (cmd.Install (codes "l1"))
+    ∷ line.db (cmd.Show show.Levels)
+    ∷ line.db (cmd.Show show.Counts)
+    ∷ line.c1 (line.ask (scan (from_to (codes "a") (codes "z"))))
+    ∷ [])
+
+abbrev pub two_halves_text : List (List ℕ)
+two_halves_text =
+    codes "c1 batch set a 1 ; set b 2 ; set c 3 ; set d 4 ; set e 5 -> done"
+    ∷ line.first_flushed
+    ++ codes "c1 load l1 excise b d -> opened"
+    ∷ codes "c1 install l1 -> installed"
+    ∷ codes "db show levels -> L0 2@1[a,a%00) 3@1[d,e%00)"
+    ∷ codes "db show counts -> 1=2"
+    ∷ codes "c1 scan a z 10 -> found a=1 d=4 e=5"
+    ∷ []
+
 -- a table wholly inside the span, and reaping twice
 abbrev pub whole_table_reaped : List Note
 whole_table_reaped =
@@ -51,6 +76,28 @@ whole_table_reaped =
     ∷ db (Show show.Levels) (reply.Levels no_tables)
     ∷ db Reap (reply.Took 1)
     ∷ db Reap reply.Nothing
+    ∷ []
+
+abbrev pub whole_table_reaped_script : List Line
+whole_table_reaped_script =
+    line.lines (line.c1 (line.put (codes "b") (codes "1"))
+    ∷ line.flushed 1
+    ++ line.c1 (line.excise (codes "l1") (from_to (codes "a") (codes "z")))
+    ∷ line.c1 (cmd.Install (codes "l1"))
+    ∷ line.db (cmd.Show show.Levels)
+    ∷ line.db cmd.Reap
+    ∷ line.db cmd.Reap
+    ∷ [])
+
+abbrev pub whole_table_reaped_text : List (List ℕ)
+whole_table_reaped_text =
+    codes "c1 put b 1 -> done"
+    ∷ line.first_flushed
+    ++ codes "c1 load l1 excise a z -> opened"
+    ∷ codes "c1 install l1 -> installed"
+    ∷ codes "db show levels -> none"
+    ∷ codes "db reap -> 1"
+    ∷ codes "db reap -> none"
     ∷ []
 
 -- a removal that fails
@@ -65,6 +112,27 @@ removal_fails =
     ∷ db Reap reply.Nothing
     ∷ []
 
+abbrev pub removal_fails_script : List Line
+removal_fails_script =
+    line.lines (line.c1 (line.put (codes "b") (codes "1"))
+    ∷ line.flushed 1
+    ++ line.c1 (line.excise (codes "l1") (from_to (codes "a") (codes "z")))
+    ∷ line.c1 (cmd.Install (codes "l1"))
+    ∷ line.db cmd.Reap
+    ∷ line.db cmd.Reap
+    ∷ [])
+
+abbrev pub removal_fails_text : List (List ℕ)
+removal_fails_text =
+    codes "c1 put b 1 -> done"
+    ∷ line.first_flushed
+    ++ codes "c1 load l1 excise a z -> opened"
+    ∷ codes "c1 install l1 -> installed"
+    ∷ codes "db reap -> 1"
+    ∷ codes "db remove 1 -> stuck"
+    ∷ codes "db reap -> none"
+    ∷ []
+
 abbrev pub a_to_z : Table
 a_to_z = file_table 1 (from_upto (codes "a") (codes "z")) 1 2 90
 
@@ -76,6 +144,24 @@ excise_of_nothing =
     ++ excise (codes "l1") (from_to (successor (codes "a")) (codes "z"))
     ∷ install (codes "l1") (changes ((0, 1) ∷ []) [] ((0, half_of a_to_z 2 (from_upto (codes "a") (codes "a"))) ∷ (0, half_of a_to_z 3 (from_upto (codes "z") (codes "z"))) ∷ []))
     ∷ db (Show show.Levels) (reply.Levels (levels_0 (half_of a_to_z 2 (from_upto (codes "a") (codes "a")) ∷ half_of a_to_z 3 (from_upto (codes "z") (codes "z")) ∷ [])))
+    ∷ []
+
+abbrev pub excise_of_nothing_script : List Line
+excise_of_nothing_script =
+    line.lines (line.c1 (line.batch (Set (codes "a") (codes "1") ∷ Set (codes "z") (codes "2") ∷ []))
+    ∷ line.flushed 1
+    ++ line.c1 (line.excise (codes "l1") (from_to (successor (codes "a")) (codes "z")))
+    ∷ line.c1 (cmd.Install (codes "l1"))
+    ∷ line.db (cmd.Show show.Levels)
+    ∷ [])
+
+abbrev pub excise_of_nothing_text : List (List ℕ)
+excise_of_nothing_text =
+    codes "c1 batch set a 1 ; set z 2 -> done"
+    ∷ line.first_flushed
+    ++ codes "c1 load l1 excise a%00 z -> opened"
+    ∷ codes "c1 install l1 -> installed"
+    ∷ codes "db show levels -> L0 2@1[a,a%00) 3@1[z,z%00)"
     ∷ []
 
 abbrev pub a_to_d : Table
@@ -92,6 +178,31 @@ cancelled_compaction =
     ∷ holding (trying (db (Put 2) (reply.Cancelled (codes "l1"))) (2 ∷ [])) (Release 1 ∷ [])
     ∷ db (Show show.Levels) (reply.Levels (levels_0 (half_of a_to_d 66 (from_upto (codes "a") (codes "a")) ∷ half_of a_to_d 67 (from_upto (codes "d") (codes "d")) ∷ [])))
     ∷ db Reap (reply.Took 2)
+    ∷ []
+
+abbrev pub cancelled_compaction_script : List Line
+cancelled_compaction_script =
+    line.lines (line.c1 (line.batch (Set (codes "a") (codes "1") ∷ Set (codes "d") (codes "2") ∷ []))
+    ∷ line.flushed 1
+    ++ line.db (line.compact_l0 (from_to (codes "a") (codes "z")))
+    ∷ line.c1 (line.excise (codes "l1") (from_to (codes "b") (codes "c")))
+    ∷ line.c1 (cmd.Install (codes "l1"))
+    ∷ line.db (cmd.Build 2)
+    ∷ line.db (cmd.Put 2)
+    ∷ line.db (cmd.Show show.Levels)
+    ∷ line.db cmd.Reap
+    ∷ [])
+
+abbrev pub cancelled_compaction_text : List (List ℕ)
+cancelled_compaction_text =
+    codes "c1 batch set a 1 ; set d 2 -> done"
+    ∷ line.first_flushed
+    ++ codes "db compact-take 0 a z -> job 2"
+    ∷ codes "c1 load l1 excise b c -> opened"
+    ∷ codes "c1 install l1 -> installed"
+    ∷ codes "db put 2 -> cancelled l1"
+    ∷ codes "db show levels -> L0 66@1[a,a%00) 67@1[d,d%00)"
+    ∷ codes "db reap -> 2"
     ∷ []
 
 abbrev pub b_x_z : TableOps
@@ -118,6 +229,38 @@ excise_beside_hull =
     ∷ db Reap (reply.Took 2)
     ∷ read 1 (scan (from_to (codes "a") (codes "zz"))) 2 4 (Found ((codes "a", codes "4") ∷ (codes "z", codes "3") ∷ []))
 
+abbrev pub excise_beside_hull_script : List Line
+excise_beside_hull_script =
+    line.lines (line.table b_x_z
+    ∷ line.c1 (cmd.Load (codes "l1") (codes "t" ∷ []) None)
+    ∷ line.c1 (cmd.Install (codes "l1"))
+    ∷ line.c1 (line.batch (Set (codes "a") (codes "4") ∷ Del (codes "b") ∷ []))
+    ∷ line.flushed 1
+    ++ line.db (line.compact_l0 (from_to (codes "a") (codes "z")))
+    ∷ line.c1 (line.excise (codes "l2") (from_to (codes "x") (codes "y")))
+    ∷ line.c1 (cmd.Install (codes "l2"))
+    ∷ line.db (cmd.Build 2)
+    ∷ line.db (cmd.Put 2)
+    ∷ line.db (cmd.Show show.Levels)
+    ∷ line.db cmd.Reap
+    ∷ line.c1 (line.ask (scan (from_to (codes "a") (codes "zz"))))
+    ∷ [])
+
+abbrev pub excise_beside_hull_text : List (List ℕ)
+excise_beside_hull_text =
+    codes "c1 load l1 t -> opened"
+    ∷ codes "c1 install l1 -> installed"
+    ∷ codes "c1 batch set a 4 ; del b -> done"
+    ∷ line.first_flushed
+    ++ codes "db compact-take 0 a z -> job 2"
+    ∷ codes "c1 load l2 excise x y -> opened"
+    ∷ codes "c1 install l2 -> installed"
+    ∷ codes "db put 2 -> installed"
+    ∷ codes "db show levels -> L1 3[a,b%00) L6 67@1[b,b%00) 68@1[z,z%00)"
+    ∷ codes "db reap -> 2"
+    ∷ codes "c1 scan a zz 10 -> found a=4 z=3"
+    ∷ []
+
 -- the answer of the question's moment
 abbrev pub answer_of_the_asking : List Note
 answer_of_the_asking =
@@ -130,6 +273,32 @@ answer_of_the_asking =
     ∷ let_go (Settle 1) (reply.Answered (Value (codes "1"))) 1
     ∷ read 2 (get (codes "c")) 2 2 Absent
     ++ db Reap (reply.Took 1)
+    ∷ []
+
+abbrev pub answer_of_the_asking_script : List Line
+answer_of_the_asking_script =
+    line.lines (line.c1 (line.put (codes "c") (codes "1"))
+    ∷ line.flushed 1
+    ++ line.c1 (line.ask_in_parts (get (codes "c")))
+    ∷ line.c1 (line.excise (codes "l1") (from_to (codes "a") (codes "m")))
+    ∷ line.c1 (cmd.Install (codes "l1"))
+    ∷ line.c1 (cmd.Settle 1)
+    ∷ line.db (cmd.Work 1)
+    ∷ line.c1 (cmd.Settle 1)
+    ∷ line.c1 (line.ask (get (codes "c")))
+    ∷ [])
+
+abbrev pub answer_of_the_asking_text : List (List ℕ)
+answer_of_the_asking_text =
+    codes "c1 put c 1 -> done"
+    ∷ line.first_flushed
+    ++ codes "c1 begin get c -> asked 1"
+    ∷ codes "c1 load l1 excise a m -> opened"
+    ∷ codes "c1 install l1 -> installed"
+    ∷ codes "c1 settle 1 -> not-yet"
+    ∷ codes "c1 settle 1 -> value 1"
+    ∷ codes "c1 get c -> none"
+    ∷ codes "db reap -> 1"
     ∷ []
 
 abbrev pub b_to_m : Table
@@ -167,6 +336,35 @@ tombstone_clipped =
     ++ db (Show show.Levels) (reply.Levels (levels_0_6 (half_b ∷ half_a_m ∷ half_n_z ∷ []) (loaded_m ∷ [])))
     ∷ []
 
+abbrev pub tombstone_clipped_script : List Line
+tombstone_clipped_script =
+    line.lines (line.c1 (line.batch (Set (codes "b") (codes "1") ∷ Set (codes "m") (codes "2") ∷ []))
+    ∷ line.flushed 1
+    ++ line.c1 (line.delspan (from_to (codes "a") (codes "z")))
+    ∷ line.flushed 2
+    ++ line.table only_m
+    ∷ line.c1 (cmd.Load (codes "l1") (codes "t1" ∷ []) (Some (from_to (codes "m") (codes "n"))))
+    ∷ line.c1 (cmd.Install (codes "l1"))
+    ∷ line.c1 (line.ask (get (codes "m")))
+    ∷ line.c1 (line.ask (get (codes "b")))
+    ∷ line.db (cmd.Show show.Levels)
+    ∷ [])
+
+abbrev pub tombstone_clipped_text : List (List ℕ)
+tombstone_clipped_text =
+    codes "c1 batch set b 1 ; set m 2 -> done"
+    ∷ line.first_flushed
+    ++ codes "c1 delspan a z -> done"
+    ∷ codes "db seal -> group 2"
+    ∷ codes "db flush-take -> job 2"
+    ∷ codes "db put 2 -> installed"
+    ∷ codes "c1 load l1 t1 excise m n -> opened"
+    ∷ codes "c1 install l1 -> installed"
+    ∷ codes "c1 get m -> value 9"
+    ∷ codes "c1 get b -> none"
+    ∷ codes "db show levels -> L0 4@1[b,b%00) 5@2[a,m) 6@2[n,z) L6 3[m,m%00)"
+    ∷ []
+
 -- the longest key
 abbrev pub long_key : List ℕ
 long_key = replicate 1024 107
@@ -179,6 +377,25 @@ longest_key =
     ∷ install (codes "l1") (changes ((0, 1) ∷ []) [] [])
     ∷ read 1 (get long_key) 1 2 Absent
     ++ db Reap (reply.Took 1)
+    ∷ []
+
+abbrev pub longest_key_script : List Line
+longest_key_script =
+    line.lines (line.c1 (line.put long_key (codes "1"))
+    ∷ line.flushed 1
+    ++ line.c1 (line.excise (codes "l1") (from_upto long_key long_key))
+    ∷ line.c1 (cmd.Install (codes "l1"))
+    ∷ line.c1 (line.ask (get long_key))
+    ∷ [])
+
+abbrev pub longest_key_text : List (List ℕ)
+longest_key_text =
+    (codes "c1 put " ++ long_key ++ codes " 1 -> done")
+    ∷ line.first_flushed
+    ++ (codes "c1 load l1 excise " ++ long_key ++ 32 ∷ long_key ++ codes "%00 -> opened")
+    ∷ codes "c1 install l1 -> installed"
+    ∷ (codes "c1 get " ++ long_key ++ codes " -> none")
+    ∷ codes "db reap -> 1"
     ∷ []
 
 abbrev pub old_range : TableOps
@@ -213,4 +430,43 @@ receive_range =
     ++ db (Show show.Levels) (reply.Levels (levels_0_6 [] (r1_to_r3 ∷ w1_alone ∷ [])))
     ∷ db (Show show.Counts) (reply.Counts ((1, 2) ∷ (2, 1) ∷ (3, 1) ∷ []))
     ∷ db (CompactTake Auto) reply.Nothing
+    ∷ []
+
+abbrev pub receive_range_script : List Line
+receive_range_script =
+    line.lines (line.table old_range
+    ∷ line.c1 (cmd.Load (codes "l1") (codes "old" ∷ []) None)
+    ∷ line.c1 (cmd.Install (codes "l1"))
+    ∷ line.c2 (line.put (codes "r2") (codes "fresh"))
+    ∷ line.c1 (cmd.Snap (codes "s1") (from_to (codes "r") (codes "s") ∷ []))
+    ∷ line.table new_range
+    ∷ line.c1 (cmd.Load (codes "l2") (codes "new" ∷ []) (Some (from_to (codes "r") (codes "s"))))
+    ∷ line.c1 (cmd.Install (codes "l2"))
+    ∷ line.db cmd.FlushTake
+    ∷ line.db (cmd.Build 1)
+    ∷ line.db (cmd.Put 1)
+    ∷ line.c1 (cmd.Install (codes "l2"))
+    ∷ line.c1 (line.ask (scan (from_to (codes "a") (codes "z"))))
+    ∷ line.c1 (line.ask (Scan (from_to (codes "r") (codes "s")) 10 (Some (codes "s1"))))
+    ∷ line.db (cmd.Show show.Levels)
+    ∷ line.db (cmd.Show show.Counts)
+    ∷ line.db (cmd.CompactTake Auto)
+    ∷ [])
+
+abbrev pub receive_range_text : List (List ℕ)
+receive_range_text =
+    codes "c1 load l1 old -> opened"
+    ∷ codes "c1 install l1 -> installed"
+    ∷ codes "c2 put r2 fresh -> done"
+    ∷ codes "c1 snap s1 r s -> pinned 1"
+    ∷ codes "c1 load l2 new excise r s -> opened"
+    ∷ codes "c1 install l2 -> waits 1"
+    ∷ codes "db flush-take -> job 1"
+    ∷ codes "db put 1 -> installed"
+    ∷ codes "c1 install l2 -> installed"
+    ∷ codes "c1 scan a z 10 -> found r1=new1 r3=new3 w1=w"
+    ∷ codes "c1 scan r s 10 at s1 -> found r1=old1 r2=fresh r5=old5"
+    ∷ codes "db show levels -> L6 2[r1,r3%00) 4@1[w1,w1%00)"
+    ∷ codes "db show counts -> 1=2 2=1 3=1"
+    ∷ codes "db compact-take auto -> none"
     ∷ []

@@ -1,5 +1,5 @@
 -- Short ways to write the lines of a script.
-use Rattle.std.specs.Prelude.{ℕ, ◌+◌, Bool, true, false, List, [], ◌∷◌, Option, Some, None}
+use Rattle.std.specs.Prelude.{ℕ, ◌+◌, true, false, List, [], ◌∷◌, Option, Some, None, codes}
 use Rattle.xdb_key.specs.Bounds.{Bounds}
 use Rattle.xdb_key.specs.declared.op.Op.{Op}
 use Rattle.xdb_key.specs.declared.op.Op.TheVariants.{Set, Del, DelSpan}
@@ -51,6 +51,18 @@ delspan range = cmd.Commit form.DelSpan (DelSpan range ∷ [])
 
 abbrev pub batch : List Op → Cmd
 batch ops = cmd.Commit form.Batch ops
+
+-- a load without tables, of a span
+abbrev pub excise : List ℕ → Bounds → Cmd
+excise load span = cmd.Load load [] (Some span)
+
+-- a group is sealed, flushed as a job, and its table installed
+abbrev pub flushed : ℕ → List Said
+flushed job = db cmd.Seal ∷ db cmd.FlushTake ∷ db (cmd.Build job) ∷ db (cmd.Put job) ∷ []
+
+-- what that prints of the first group
+abbrev pub first_flushed : List (List ℕ)
+first_flushed = codes "db seal -> group 1" ∷ codes "db flush-take -> job 1" ∷ codes "db put 1 -> installed" ∷ []
 
 -- a question, and one in parts
 abbrev pub ask : Question → Cmd

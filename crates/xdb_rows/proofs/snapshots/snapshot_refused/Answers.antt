@@ -1,0 +1,8 @@
+use Rattle.std.proofs.Common.{rules, refl}
+use Rattle.std.specs.Fmt.{digits}
+use Rattle.xdb_rows.proofs.MapLaws.{get-found, known_entries}
+use Rattle.xdb_rows.proofs.snapshots.snapshot_refused.Goals as goal
+
+pub returns : goal.returns
+unfolding digits
+returns c = record { script = search rules; right = search (rules, get-found, known_entries); holds = search rules; run = search rules; prints = refl }
