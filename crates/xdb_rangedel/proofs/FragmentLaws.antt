@@ -116,13 +116,17 @@ AreFragments-parts_from at = AreFragments-filter_map (part_from at)
     along_both (starting_from at s) (starting_from at t) u v (cond_some (is_below at s.range.hi) (starting_from at s) u e).1 (cond_some (is_below at t.range.hi) (starting_from at t) v g).1
     (apart_by (λ r. bounds (later_of at r.lo) r.hi) s t (λ a b apart. upto_trans a.hi b.lo (later_of at b.lo) apart (upto-later at b.lo)) before))
 
-pub AreFragments-parts_in : (r : Bounds) (ts : List Tombstone) → is_below r.lo r.hi ≡ true → AreFragments ts → AreFragments (parts_in r ts)
-AreFragments-parts_in r ts sane = AreFragments-filter_map (part_in r)
-    (λ s u o e.
+-- a part in a range that isn't empty, of a span that isn't
+pub part_in-ordered : (r : Bounds) (s u : Tombstone) → is_below r.lo r.hi ≡ true → is_ordered s ≡ true → part_in r s ≡ Some u → is_ordered u ≡ true
+part_in-ordered r s u sane o e =
     let (met, same) = cond_some (meets s.range r) (starting_from r.lo (ending_by r.hi s)) u e in
     let (started, open_) = and_parts (is_below s.range.lo r.hi) (is_below r.lo s.range.hi) met in
     ap is_ordered (sym same)
-    ∙ below-earlier (later_of r.lo s.range.lo) r.hi s.range.hi (later-below r.hi r.lo s.range.lo sane started) (later-below s.range.hi r.lo s.range.lo open_ o))
+    ∙ below-earlier (later_of r.lo s.range.lo) r.hi s.range.hi (later-below r.hi r.lo s.range.lo sane started) (later-below s.range.hi r.lo s.range.lo open_ o)
+
+pub AreFragments-parts_in : (r : Bounds) (ts : List Tombstone) → is_below r.lo r.hi ≡ true → AreFragments ts → AreFragments (parts_in r ts)
+AreFragments-parts_in r ts sane = AreFragments-filter_map (part_in r)
+    (λ s u o e. part_in-ordered r s u sane o e)
     (λ s t u v before e g.
     let part = λ (x : Tombstone). starting_from r.lo (ending_by r.hi x) in
     along_both (part s) (part t) u v (cond_some (meets s.range r) (part s) u e).1 (cond_some (meets t.range r) (part t) v g).1

@@ -8,6 +8,7 @@ pub mod SpanLaws
 pub mod ViewLaws
 pub mod PartLaws
 pub mod FragmentLaws
+pub mod RangeLaws
 pub mod StripLaws
 pub mod ColumnLaws
 pub mod LaidLaws

@@ -1,5 +1,6 @@
 -- What joined, mapped and filtered lists hold.
-use Rattle.std.proofs.Common.{◌≡◌, ℕ, ◌<◌, zero, suc, List, [], ◌∷◌, ◌++◌, length, get_or, map, Option, Some, None, inl, inr, ◌⊎◌, refl, ap, arith}
+use Rattle.std.proofs.Common.{◌≡◌, ℕ, ◌<◌, zero, suc, List, [], ◌∷◌, ◌++◌, length, get_or, map, Option, Some, None, inl, inr, ◌⊎◌, refl, ap, ◌∙◌, arith}
+use Rattle.std.proofs.lemmas.Option.{none-some, same_Some}
 use Rattle.std.specs.List.{filter_map, cons_option, Contains}
 use Rattle.xdb_rangedel.specs.Members.{Has}
 
@@ -38,6 +39,24 @@ Has-from_filter_map f (y ∷ xs) z h = elim (Has-cons_option (f y) (filter_map f
   | inl e ↦ (y, inl refl, e)
   | inr g ↦ let from = Has-from_filter_map f xs z g in (from.0, inr from.1, from.2)
 ]
+
+Has-cons_here : {B : Type 0} (o : Option B) (zs : List B) (z : B) → o ≡ Some z → Has (cons_option o zs) z
+Has-cons_here None zs z e = absurd (none-some z e)
+Has-cons_here (Some y) zs z e = inl (same_Some y z e)
+
+Has-cons_there : {B : Type 0} (o : Option B) (zs : List B) (z : B) → Has zs z → Has (cons_option o zs) z
+Has-cons_there None zs z h = h
+Has-cons_there (Some y) zs z h = inr h
+
+pub Has-filter_map : {A B : Type 0} (f : A → Option B) (xs : List A) (x : A) (z : B) → Has xs x → f x ≡ Some z → Has (filter_map f xs) z
+Has-filter_map f [] x z h e = absurd h
+Has-filter_map f (y ∷ xs) x z (inl same) e = Has-cons_here (f y) (filter_map f xs) z (ap f same ∙ e)
+Has-filter_map f (y ∷ xs) x z (inr h) e = Has-cons_there (f y) (filter_map f xs) z (Has-filter_map f xs x z h e)
+
+-- a list that holds nothing is empty
+pub none-held : {A : Type 0} (xs : List A) → ((x : A) → Has xs x → ⊥) → xs ≡ []
+none-held [] h = refl
+none-held (x ∷ xs) h = absurd (h x (inl refl))
 
 -- between membership by recursion and by index
 

@@ -1,5 +1,5 @@
 //! Laws of the definitions, each a function that does nothing.
-ghost use Rattle.std.specs.Prelude.{◌≡◌, ℕ, ◌≤◌, ◌&&◌, List, ◌++◌, map, IsTrue, Option, Some, None, nat_lt, if◌then◌else◌};
+ghost use Rattle.std.specs.Prelude.{◌≡◌, ℕ, ◌≤◌, false, ◌&&◌, List, [], ◌++◌, map, ◌↔◌, IsTrue, Option, Some, None, nat_lt, if◌then◌else◌};
 ghost use Rattle.std.specs.FinMap.{FinMap};
 ghost use Rattle.std.specs.List.{All};
 ghost use Rattle.std.specs.Option.{option_map};
@@ -10,8 +10,8 @@ ghost use Rattle.xdb_rangedel.specs.Members.{Has, SameMembers};
 ghost use Rattle.xdb_rangedel.specs.Cover.{cover_of};
 ghost use Rattle.xdb_rangedel.specs.Pieces.{pieces, is_ordered, IsPiece, AreFragments};
 ghost use Rattle.xdb_rangedel.specs.Clip.{parts_before, parts_from, parts_in};
-ghost use Rattle.xdb_rangedel.specs.Content.{Item, entry, span, Mark, here, mark, deleted_at, is_seen, newer, newest, verdict, IsImage, IsClear, entries_in, spans_in, in_pieces, entry_of, content_of};
-ghost use Rattle.xdb_rangedel.specs.View.{restricted};
+ghost use Rattle.xdb_rangedel.specs.Content.{Item, entry, span, Mark, here, rank, said, mark, deleted_at, is_seen, newer, newest, verdict, IsImage, IsClear, entries_in, spans_in, in_pieces, entry_of, content_of};
+ghost use Rattle.xdb_rangedel.specs.View.{restricted, renumbered, view, lies_in, HasOrderedSpans};
 ghost use Rattle.xdb_rangedel.specs.Layers.{IsGreatest, IsAllBelow, IsAllFrom, IsSilentAt, IsNewerAt, IsOverAt, over, IsDrawn};
 
 /// The newest of joined contents is the newer of their newest.
@@ -115,6 +115,34 @@ pub fn part_in_range()
     ensures says { (r : Bounds) (c : List Item) (limit : ℕ) (k : List ℕ)
         → newest (restricted r c) limit k ≡ (if holds r k then newest c limit k else None) }
     ensures drawn { (r : Bounds) (c : List Item) → IsDrawn c (restricted r c) }
+{}
+
+/// The view in a range says inside what the content says, with the synthetic number where there is
+/// one, and nothing outside. It is drawn from the content, and has all of it that speaks of a key of the
+/// range (`kept`). Each of its items lies in the range; so it is empty exactly where the content holds
+/// nothing at any key of the range, and always where the range is empty or ends before it begins.
+pub fn view_of_range()
+    ensures says { (c : List Item) (r : Bounds) (synthetic limit : ℕ) (k : List ℕ)
+        → newest (view c r synthetic) limit k
+        ≡ (if holds r k then newest (renumbered synthetic c) limit k else None) }
+    ensures drawn { (c : List Item) (r : Bounds) (synthetic : ℕ)
+        → IsDrawn (renumbered synthetic c) (view c r synthetic) }
+    ensures kept { (c : List Item) (r : Bounds) (synthetic : ℕ) (k : List ℕ) (i : Item)
+        → Has (renumbered synthetic c) i → IsTrue (holds r k) → IsTrue (here k i)
+        → (j : Item) × Has (view c r synthetic) j × IsTrue (here k j)
+        × (rank j ≡ rank i) × (said j ≡ said i) }
+    ensures entries { (c : List Item) (r : Bounds) (synthetic : ℕ)
+        (key : List ℕ) (seq : ℕ) (v : Option (List ℕ))
+        → Has (view c r synthetic) (entry key seq v)
+        ↔ (Has (renumbered synthetic c) (entry key seq v) × IsTrue (holds r key)) }
+    ensures inside { (c : List Item) (r : Bounds) (synthetic : ℕ) (i : Item) → HasOrderedSpans c
+        → Has (view c r synthetic) i → IsTrue (lies_in r i) }
+    ensures ordered { (c : List Item) (r : Bounds) (synthetic : ℕ) → HasOrderedSpans c
+        → HasOrderedSpans (view c r synthetic) }
+    ensures empty { (c : List Item) (r : Bounds) (synthetic : ℕ) → HasOrderedSpans c
+        → (view c r synthetic ≡ []) ↔ ((k : List ℕ) → IsTrue (holds r k) → IsSilentAt k c) }
+    ensures nothing { (c : List Item) (r : Bounds) (synthetic : ℕ)
+        → is_below r.lo r.hi ≡ false → view c r synthetic ≡ [] }
 {}
 
 /// Spans say of a key that it was deleted at the number that covers it; a content says the same

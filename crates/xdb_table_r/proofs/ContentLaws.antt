@@ -2,13 +2,12 @@
 use Rattle.std.proofs.Common.{◌≡◌, ℕ, Bool, true, false, cond, eqb, List, [], ◌∷◌, ◌++◌, map, Option, Some, None, refl, sym, ap, ◌∙◌, subst, inl, inr}
 use Rattle.std.specs.List.{cons_option}
 use Rattle.std.specs.Option.{option_map}
-use Rattle.std.proofs.lemmas.Bool.{and_parts, true≢false}
 use Rattle.std.proofs.lemmas.List.{map-append}
 use Rattle.std.proofs.lemmas.List.Elements.{filter_map-append}
-use Rattle.xdb_key.proofs.OrderLaws.{upto_below}
 use Rattle.xdb_key.specs.Bounds.{Bounds, holds, meets}
 use Rattle.xdb_key.specs.Entries.{Point, Tombstone, tombstone}
 use Rattle.xdb_key.specs.Order.{is_below}
+use Rattle.xdb_rangedel.proofs.RangeLaws.{none-held_in}
 use Rattle.xdb_rangedel.proofs.MemberLaws.{Has-append_left, Has-append_right, Has-append_cases, Has-map, Has-from_map}
 use Rattle.xdb_rangedel.specs.Clip.{starting_from, ending_by, part_in, parts_in}
 use Rattle.xdb_rangedel.specs.Content.{Item, span, entry_of, content_of}
@@ -80,14 +79,23 @@ spans_seen none r s (t ∷ ts) e =
 restricted_joined : (r : Bounds) (f : Item → Item) (a b : List Item) → restricted r (map f a) ++ restricted r (map f b) ≡ restricted r (map f (a ++ b))
 restricted_joined r f a b = sym (ap (restricted r) (map-append f a b) ∙ filter_map-append (within r) (map f a) (map f b))
 
-seen_by : (none : Bool) (r : Bounds) (s : ℕ) (rows : List Row) (ts : List Tombstone) → eqb s 0 ≡ none → is_below r.lo r.hi ≡ true → content_of (points_in r s rows) (spans_in r s ts) ≡ view (content_in rows ts) r s
-seen_by none r s rows ts e ordered =
-    let some : spans_in r s ts ≡ map (span_for s) (parts_in r ts) = ap (λ b. cond b (map (span_for s) (parts_in r ts)) []) ordered in
-    ap (content_of (points_in r s rows)) some ∙ (λ j. points_seen none r s rows e j ++ spans_seen none r s ts e j)
+restricted_seen : (none : Bool) (r : Bounds) (s : ℕ) (rows : List Row) (ts : List Tombstone) → eqb s 0 ≡ none → content_of (points_in r s rows) (map (span_for s) (parts_in r ts)) ≡ restricted r (all_numbered s (content_in rows ts))
+restricted_seen none r s rows ts e =
+    (λ j. points_seen none r s rows e j ++ spans_seen none r s ts e j)
     ∙ restricted_joined r (numbered none s) (map entry_of (map point_of rows)) (map span ts) ∙ ap (restricted r) (sym (all_numbered_is none s (content_in rows ts) e))
 
-pub seen_is_view : (r : Bounds) (s : ℕ) (rows : List Row) (ts : List Tombstone) → is_below r.lo r.hi ≡ true → content_of (points_in r s rows) (spans_in r s ts) ≡ view (content_in rows ts) r s
-seen_is_view r s rows ts ordered = seen_by (eqb s 0) r s rows ts refl ordered
+-- a range that holds no key has no points
+no_points : (r : Bounds) (s : ℕ) (rows : List Row) → is_below r.lo r.hi ≡ false → points_in r s rows ≡ []
+no_points r s [] empty = refl
+no_points r s (i ∷ is) empty =
+    (λ j. cons_option (cond (none-held_in r (user_part i.key) empty j) (Some (renumbered s (point_of i))) None) (no_points r s is empty j))
+
+seen_by : (sane : Bool) (r : Bounds) (s : ℕ) (rows : List Row) (ts : List Tombstone) → is_below r.lo r.hi ≡ sane → content_of (points_in r s rows) (cond sane (map (span_for s) (parts_in r ts)) []) ≡ cond sane (restricted r (all_numbered s (content_in rows ts))) []
+seen_by true r s rows ts e = restricted_seen (eqb s 0) r s rows ts refl
+seen_by false r s rows ts e = ap (λ ps. content_of ps []) (no_points r s rows e)
+
+pub seen_is_view : (r : Bounds) (s : ℕ) (rows : List Row) (ts : List Tombstone) → content_of (points_in r s rows) (spans_in r s ts) ≡ view (content_in rows ts) r s
+seen_is_view r s rows ts = seen_by (is_below r.lo r.hi) r s rows ts refl
 
 -- ---- spans by their members
 
@@ -97,23 +105,7 @@ along ps xs ys sub i has = elim (Has-append_cases (map entry_of ps) (map span xs
   | inr b ↦ let from = Has-from_map span xs i b in Has-append_right (map entry_of ps) (map span ys) i (subst (λ x. Has (map span ys) x) from.2 (Has-map span ys from.0 (sub from.0 from.1)))
 ]
 
-pub members_are_view : (r : Bounds) (s : ℕ) (rows : List Row) (ts made : List Tombstone) → is_below r.lo r.hi ≡ true → SameMembers made (spans_in r s ts) → SameMembers (content_of (points_in r s rows) made) (view (content_in rows ts) r s)
-members_are_view r s rows ts made ordered same =
-    subst (SameMembers (content_of (points_in r s rows) made)) (seen_is_view r s rows ts ordered)
+pub members_are_view : (r : Bounds) (s : ℕ) (rows : List Row) (ts made : List Tombstone) → SameMembers made (spans_in r s ts) → SameMembers (content_of (points_in r s rows) made) (view (content_in rows ts) r s)
+members_are_view r s rows ts made same =
+    subst (SameMembers (content_of (points_in r s rows) made)) (seen_is_view r s rows ts)
     (λ i. (along (points_in r s rows) made (spans_in r s ts) (λ t h. (same t).0 h) i, along (points_in r s rows) (spans_in r s ts) made (λ t h. (same t).1 h) i))
-
--- ---- a range that ends before it begins
-
-unordered : (r : Bounds) (k : List ℕ) (h : Bool) → is_below r.lo r.hi ≡ false → holds r k ≡ h → h ≡ false
-unordered r k true below e = let parts = and_parts _ _ e in absurd (true≢false (sym (upto_below r.lo k r.hi parts.0 parts.1) ∙ below))
-unordered r k false below e = refl
-
-no_points : (r : Bounds) (s : ℕ) (rows : List Row) → is_below r.lo r.hi ≡ false → points_in r s rows ≡ []
-no_points r s [] below = refl
-no_points r s (i ∷ is) below =
-    let none = unordered r (user_part i.key) (holds r (user_part i.key)) below refl in
-    (λ j. cons_option (cond (none j) (Some (renumbered s (point_of i))) None) (no_points r s is below j))
-
-pub nothing_seen : (r : Bounds) (s : ℕ) (rows : List Row) (ts : List Tombstone) → is_below r.lo r.hi ≡ false → content_of (points_in r s rows) (spans_in r s ts) ≡ []
-nothing_seen r s rows ts below =
-    (λ j. map entry_of (no_points r s rows below j) ++ map span (cond (below j) (map (span_for s) (parts_in r ts)) []))

@@ -1,8 +1,7 @@
 //! Laws of the definitions, each a function that does nothing.
-ghost use Rattle.std.specs.Prelude.{◌≡◌, ◌^◌, ◌<◌, ℕ, List, [], length, Ok, false, IsTrue};
+ghost use Rattle.std.specs.Prelude.{◌≡◌, ◌^◌, ◌<◌, ℕ, List, length, Ok};
 ghost use Rattle.xdb_key.specs.Bounds.{Bounds};
 ghost use Rattle.xdb_key.specs.Entries.{Tombstone};
-ghost use Rattle.xdb_key.specs.Order.{is_below};
 ghost use Rattle.xdb_key.specs.Reading.{AreBytes};
 ghost use Rattle.xdb_rangedel.specs.Content.{content_of};
 ghost use Rattle.xdb_rangedel.specs.Members.{SameMembers};
@@ -28,12 +27,14 @@ pub fn table_is_spelled_so()
     ensures { (bytes : List ℕ) (ts : List Tombstone) (rows : List Row) (end : ℕ) (points : List Row) → AreBytes bytes → opened_at bytes ≡ Ok (opened ts rows end) → points_at rows bytes ≡ Ok points → IsTableOf bytes points ts }
 {}
 
-/// What a range shows of a table's points and spans is the view of the table's content. `members` is for spans
-/// that are known by their members alone. Where the range ends before it begins, nothing is shown.
+/// What a range shows of a table's points and spans is the view of the table's content, whatever the range.
+/// `members` is for spans that are known by their members alone.
 pub fn shown_is_the_view()
-    ensures whole { (r : Bounds) (synthetic : ℕ) (rows : List Row) (ts : List Tombstone) → IsTrue (is_below r.lo r.hi) → content_of (points_in r synthetic rows) (spans_in r synthetic ts) ≡ view (content_in rows ts) r synthetic }
-    ensures members { (r : Bounds) (synthetic : ℕ) (rows : List Row) (ts made : List Tombstone) → IsTrue (is_below r.lo r.hi) → SameMembers made (spans_in r synthetic ts) → SameMembers (content_of (points_in r synthetic rows) made) (view (content_in rows ts) r synthetic) }
-    ensures nothing { (r : Bounds) (synthetic : ℕ) (rows : List Row) (ts : List Tombstone) → is_below r.lo r.hi ≡ false → content_of (points_in r synthetic rows) (spans_in r synthetic ts) ≡ [] }
+    ensures whole { (r : Bounds) (synthetic : ℕ) (rows : List Row) (ts : List Tombstone)
+        → content_of (points_in r synthetic rows) (spans_in r synthetic ts) ≡ view (content_in rows ts) r synthetic }
+    ensures members { (r : Bounds) (synthetic : ℕ) (rows : List Row) (ts made : List Tombstone)
+        → SameMembers made (spans_in r synthetic ts)
+        → SameMembers (content_of (points_in r synthetic rows) made) (view (content_in rows ts) r synthetic) }
 {}
 
 /// A file shorter than 2^63 bytes is a table of one content alone.

@@ -1,4 +1,4 @@
-use Rattle.xdb_table_r.proofs.ContentLaws.{seen_is_view, members_are_view, nothing_seen}
+use Rattle.xdb_table_r.proofs.ContentLaws.{seen_is_view, members_are_view}
 use Rattle.xdb_table_r.proofs.laws.shown_is_the_view.Goals as goal
 
 pub returns-clause-whole : goal.returns-clause-whole
@@ -6,6 +6,3 @@ returns-clause-whole c = seen_is_view
 
 pub returns-clause-members : goal.returns-clause-members
 returns-clause-members c = members_are_view
-
-pub returns-clause-nothing : goal.returns-clause-nothing
-returns-clause-nothing c = nothing_seen
