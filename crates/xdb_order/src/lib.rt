@@ -15,6 +15,7 @@ mod desk;
 mod hand;
 mod known;
 pub mod laws;
+mod pending;
 mod rule;
 mod story;
 #[cfg(test)]
@@ -24,6 +25,7 @@ mod work;
 
 pub use desk::Desk;
 pub use hand::Hand;
+pub use pending::Pending;
 pub use story::Story;
 pub use work::Work;
 

@@ -2,9 +2,9 @@
 ghost use Rattle.std.specs.Prelude.{◌≡◌, ◌+◌, ◌*◌};
 
 use crate::laws::{what_was_home, what_was_put};
-use crate::{Desk, Hand, Work, order};
+use crate::{Desk, Hand, Pending, Work, order};
 use std::alloc::{AllocError, Global};
-use std::marker::{Model, PhantomData};
+use std::marker::PhantomData;
 use std::test::Fail;
 use std::thread;
 use std::thread::Threads;
@@ -149,71 +149,62 @@ fn raise<F: Drop + Send + Sync>(hand: Hand<Raising<F>>) {
     hand.deliver(Answer { number, file: None });
 }
 
-// A desk inside a struct whose invariant names what the desk was given: what is kept answers it.
-#[derive(Drop)]
-struct Question<F: Drop + Send + Sync> {
-    desk: Desk<Raising<F>>,
-    kept: Option<u64>,
-}
-
-impl<F: Drop + Send + Sync> Model for Question<F> {
-    ghost use Rattle.std.specs.Prelude.{◌≡◌, ◌+◌, ℕ, Option, IfSome};
-    ghost use Rattle.xdb_order.specs.declared.story.Story.{Story};
-    ghost use Rattle.xdb_order.specs.declared.tests.Parts.{Parts};
-
-    ghost Value = { Parts F × Story × Option ℕ };
-
-    ghost view = { λ a. (a.desk.given, a.desk.story, a.kept) };
-
-    ghost invariant = { λ a. IfSome a.kept (λ n. n ≡ a.desk.given.number + 1) };
-}
-
-impl<F: Drop + Send + Sync> Question<F> {
-    ghost use Rattle.std.specs.Prelude.{◌≡◌, ◌+◌, None, IfSome, IsTrue, IsSome, is_some, ◌↔◌};
-    ghost use Rattle.xdb_order.specs.Desk.{Looks};
-
-    fn new(desk: Desk<Raising<F>>) -> Question<F>
-        ensures { result ≡ (desk.given, desk.story, None) }
-    {
-        Question { desk, kept: None }
-    }
-
-    fn arrived(&mut self) -> bool
-        ensures given { self.new.0 ≡ self.old.0 }
-        ensures kept { IsTrue result ↔ IsSome self.new.2 }
-        ensures look { self.old.2 ≡ None → Looks self.old.1 (is_some self.new.2) self.new.1 }
-    {
-        if self.kept.is_none() {
-            self.kept = self.desk.collect().map(|answer| answer.number);
-        }
-        self.kept.is_some()
-    }
-
-    fn answer(&self) -> Option<u64>
-        ensures kept { result ≡ self.now.2 }
-        ensures right { IfSome result (λ n. n ≡ self.now.0.number + 1) }
-    {
-        self.kept
-    }
-}
-
-fn question_is<F: Drop + Send + Sync>(
+// Finds what another thread delivered, by one look, and has it kept.
+fn is_found<F: Drop + Send + Sync>(
     rt: &impl Threads,
     (desk, hand): (Desk<Raising<F>>, Hand<Raising<F>>),
 ) -> bool {
-    let mut question = Question::new(desk);
-    let early = question.arrived();
+    let mut pending = Pending::new(desk);
+    let early = pending.arrived() || pending.is_kept();
     thread::join(rt, move || raise(hand), || ());
-    !early && question.arrived() && question.answer() == Some(7)
+    let given = pending.given().number == 6;
+    let late = pending.arrived() && pending.arrived() && pending.is_kept();
+    let number = pending.into_kept().map(|answer| answer.number);
+    !early && given && late && number == Some(7)
 }
 
 #[test]
-fn a_desk_lies_in_a_question_over_any_file(rt: HostRuntime) -> Result<(), Fail> {
-    let given = Parts {
+fn what_a_look_finds_is_kept_over_any_file(rt: HostRuntime) -> Result<(), Fail> {
+    let right = is_found(&rt, order::<Raising<String>>(rt.alloc(), six(rt.alloc()))?);
+    assert!(rt; right);
+    Ok(())
+}
+
+fn six(alloc: Global) -> Parts<String> {
+    Parts {
         number: 6,
-        file: String::new(rt.alloc()),
-    };
-    let right = question_is(&rt, order::<Raising<String>>(rt.alloc(), given)?);
+        file: String::new(alloc),
+    }
+}
+
+fn bring_raised<F: Drop + Send + Sync>(pending: &mut Pending<Raising<F>>, file: F) {
+    let number = u64::from(pending.given().number) + 1;
+    pending.bring(Answer {
+        number,
+        file: Some(file),
+    });
+}
+
+fn has_file<F: Drop>(answer: Option<&Answer<F>>) -> bool {
+    answer.is_some_and(|answer| answer.file.is_some())
+}
+
+// What is brought has a file, and what the hand delivers has none: the look for it leaves what is kept.
+fn is_brought<F: Drop + Send + Sync>(
+    (desk, hand): (Desk<Raising<F>>, Hand<Raising<F>>),
+    file: F,
+) -> bool {
+    let mut pending = Pending::new(desk);
+    bring_raised(&mut pending, file);
+    raise(hand);
+    let there = pending.is_kept() && pending.arrived();
+    there && has_file(pending.kept()) && has_file(pending.into_kept().as_ref())
+}
+
+#[test]
+fn what_is_brought_stays(rt: HostRuntime) -> Result<(), Fail> {
+    let ends = order::<Raising<String>>(rt.alloc(), six(rt.alloc()))?;
+    let right = is_brought(ends, String::new(rt.alloc()));
     assert!(rt; right);
     Ok(())
 }
