@@ -1,2 +1,3 @@
 //! Tables of cases that tell definitions apart: each notices a definition that is changed in one place.
 pub mod orders;
+pub mod runs;
