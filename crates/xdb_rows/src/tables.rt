@@ -1,3 +1,4 @@
 //! Tables of cases that tell definitions apart: each notices a definition that is changed in one place.
 pub mod orders;
 pub mod runs;
+pub mod workers;

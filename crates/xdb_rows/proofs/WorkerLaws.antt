@@ -1,0 +1,85 @@
+-- Runs by workers of closed lines and notes, from facts that compute.
+use Rattle.std.proofs.Common.{◌≡◌, ℕ, zero, suc, ◌≤◌, Bool, true, false, List, [], ◌∷◌, length, filter, IsTrue, refl, sym, subst, arith, inl, inr, le_of_suc-le-suc, eq-or-lt_of_le}
+use Rattle.std.proofs.lemmas.Bool.{false≢true}
+use Rattle.std.specs.List.{list_all}
+use Rattle.xdb_plain.specs.Counts.{dead}
+use Rattle.xdb_plain.specs.Legal.{after_all}
+use Rattle.xdb_plain.specs.State.{Plain, opening}
+use Rattle.xdb_plain.specs.Workers.{AreClientBlocks, lines_by, notes_by, is_due_reply, IsQuiet, ends_failed, is_wait, is_failure, IsThreadsOf}
+use Rattle.xdb_plain.specs.declared.act.By.TheVariants.{Client}
+use Rattle.xdb_plain.specs.declared.note.Note.{Note}
+use Rattle.xdb_plain.specs.declared.script.Line.{Line}
+use Rattle.xdb_rows.specs.Judged.{RunCase, run, no_run, IsHistoryOf, IsThreadsCase, AreThreadsCases}
+
+-- it is so of the numbers from a limit down to 1
+abbrev pub DownFrom : ℕ → (ℕ → Type 0) → Type 0
+DownFrom zero P = Unit {0}
+DownFrom (suc n) P = P (suc n) × DownFrom n P
+
+each-down : (limit : ℕ) (P : ℕ → Type 0) → DownFrom limit P → (n : ℕ) → 1 ≤ n → n ≤ limit → P n
+each-down zero P all n low high = absurd (omega arith)
+each-down (suc limit) P all n low high = elim (eq-or-lt_of_le high) [
+  | inl e ↦ subst P (sym e) all.0
+  | inr less ↦ each-down limit P all.1 n low (le_of_suc-le-suc less)
+]
+
+down-each : (limit : ℕ) (P : ℕ → Type 0) → ((n : ℕ) → 1 ≤ n → n ≤ limit → P n) → DownFrom limit P
+down-each zero P each = tt
+down-each (suc limit) P each = (each (suc limit) (omega arith) (omega arith), down-each limit P (λ n low high. each n low (omega arith)))
+
+abbrev pub QuietUnless : Bool → Plain → Type 0
+QuietUnless true p = Unit {0}
+QuietUnless false p = IsQuiet p
+
+to-quiet : (failed : Bool) (p : Plain) → QuietUnless failed p → failed ≡ false → IsQuiet p
+to-quiet true p q e = absurd (false≢true (sym e))
+to-quiet false p q e = q
+
+from-quiet : (failed : Bool) (p : Plain) → (failed ≡ false → IsQuiet p) → QuietUnless failed p
+from-quiet true p q = tt
+from-quiet false p q = q refl
+
+abbrev pub Blocks : List Line → List Note → ℕ → Type 0
+Blocks lines notes client = AreClientBlocks [] (lines_by (Client client) lines) (notes_by (Client client) notes)
+
+-- a run by workers, client by client, and quiet or not
+pub record IsClosedThreads (lines : List Line) (notes : List Note) : Type 0 where
+  pub clients : DownFrom 16 (Blocks lines notes)
+  pub clean : dead (after_all (opening 1 1) notes) ≡ []
+  pub due_replies : IsTrue (list_all is_due_reply notes)
+  pub quiet : QuietUnless (ends_failed notes) (after_all (opening 1 1) notes)
+  pub few_waits : length (filter (λ note. is_wait note.act note.reply) notes) ≤ length (filter (λ note. is_failure note.reply) notes)
+
+to-threads : (lines : List Line) (notes : List Note) → IsClosedThreads lines notes → IsThreadsOf 1 1 lines notes
+to-threads lines notes h = record {
+  clients = each-down 16 (Blocks lines notes) h.clients;
+  clean = h.clean;
+  due_replies = h.due_replies;
+  quiet = to-quiet (ends_failed notes) (after_all (opening 1 1) notes) h.quiet;
+  few_waits = h.few_waits;
+}
+
+from-threads : (lines : List Line) (notes : List Note) → IsThreadsOf 1 1 lines notes → IsClosedThreads lines notes
+from-threads lines notes h = record {
+  clients = down-each 16 (Blocks lines notes) h.clients;
+  clean = h.clean;
+  due_replies = h.due_replies;
+  quiet = from-quiet (ends_failed notes) (after_all (opening 1 1) notes) h.quiet;
+  few_waits = h.few_waits;
+}
+
+abbrev pub IsClosedCase : RunCase → Type 0
+IsClosedCase (run lines notes) = IsHistoryOf lines notes × IsClosedThreads lines notes
+IsClosedCase (no_run lines notes) = IsHistoryOf lines notes × (IsClosedThreads lines notes → ⊥)
+
+abbrev pub AreClosedCases : List RunCase → Type 0
+AreClosedCases [] = Unit {0}
+AreClosedCases (c ∷ cs) = IsClosedCase c × AreClosedCases cs
+
+threads-case : (c : RunCase) → IsClosedCase c → IsThreadsCase c
+threads-case (run lines notes) h = (h.0, to-threads lines notes h.1)
+threads-case (no_run lines notes) h = (h.0, λ t. h.1 (from-threads lines notes t))
+
+pub threads-cases : (cs : List RunCase) → AreClosedCases cs → AreThreadsCases cs
+threads-cases [] h = tt
+threads-cases (c ∷ cs) h = (threads-case c h.0, threads-cases cs h.1)
