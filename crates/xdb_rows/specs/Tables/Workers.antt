@@ -2,19 +2,22 @@
 use Rattle.std.specs.Prelude.{ℕ, true, false, List, [], ◌∷◌, ◌++◌, replicate, None, Some, codes}
 use Rattle.xdb_key.specs.declared.op.Op.TheVariants.{Set, Del}
 use Rattle.xdb_plain.specs.Tables.{TableOps, table_ops}
+use Rattle.xdb_plain.specs.Workers.{HasCome}
 use Rattle.xdb_plain.specs.declared.act.Act.TheVariants as act
 use Rattle.xdb_plain.specs.declared.act.StatusForm.TheVariants as status_form
 use Rattle.xdb_plain.specs.declared.act.Which.TheVariants.{Auto}
+use Rattle.xdb_plain.specs.declared.act.By.TheVariants.{Client}
 use Rattle.xdb_plain.specs.declared.answer.Answer.TheVariants.{Absent}
 use Rattle.xdb_plain.specs.declared.note.HoldNote.TheVariants.{Hold, Release}
 use Rattle.xdb_plain.specs.declared.note.Note.{Note}
 use Rattle.xdb_plain.specs.declared.reply.Reply.TheVariants as reply
 use Rattle.xdb_plain.specs.declared.script.Cmd.TheVariants as cmd
+use Rattle.xdb_plain.specs.declared.script.Line.{Line}
 use Rattle.xdb_rows.specs.Judged.{RunCase, run, no_run}
 use Rattle.xdb_rows.specs.Lines as line
 use Rattle.xdb_rows.specs.Lines.{Said, lines}
 use Rattle.xdb_rows.specs.Loads.{only_a}
-use Rattle.xdb_rows.specs.Notes.{c1, c2, db, holding, trying, from_to, table_of_key, put, batch, put_flush, flushed, get, ask_held, ask_answered, excise, compact_l0}
+use Rattle.xdb_rows.specs.Notes.{note, c1, c2, db, holding, trying, from_to, table_of_key, put, batch, put_flush, flushed, get, ask_held, ask_answered, excise, compact_l0}
 
 abbrev pub puts_a : Said
 puts_a = line.c1 (line.put (codes "a") (codes "1"))
@@ -199,6 +202,9 @@ puts_c = line.c2 (line.put (codes "c") (codes "1"))
 abbrev pub put_c : Note
 put_c = c2 (put (codes "c") (codes "1")) reply.Done
 
+abbrev pub puts_16 : Said
+puts_16 = record { said_by = Some (Client 16); cmd = line.put (codes "a") (codes "1") }
+
 -- each client's lines have their notes, in order
 abbrev pub clients_in_order : List RunCase
 clients_in_order =
@@ -213,6 +219,9 @@ clients_in_order =
     -- another client than the one who said it
     ∷ no_run (lines (puts_a ∷ [])) (c2 (put (codes "a") (codes "1")) reply.Done ∷ [])
     ∷ no_run [] (put_a ∷ [])
+    -- the last client
+    ∷ run (lines (puts_16 ∷ [])) (note (Client 16) (put (codes "a") (codes "1")) reply.Done ∷ [])
+    ∷ no_run (lines (puts_16 ∷ [])) []
     ∷ []
 
 abbrev pub asked_a : Note
@@ -248,4 +257,93 @@ defined_for_all =
     -- the second client's load without it
     ∷ no_run (lines (loads (line.c2 (cmd.Load (codes "l2") (codes "t" ∷ []) (Some (from_to (codes "m") (codes "z")))))))
         (load_opened ++ c2 (act.LoadOpen (codes "l2") [] (Some (from_to (codes "m") (codes "z")))) reply.Opened ∷ [])
+    ∷ []
+
+-- lines of a client, how many are done, what there is of the next one's block, and the notes by the client
+pub record Place : Type 0 where
+  pub lines : List Line
+  pub done : ℕ
+  pub begun : List Note
+  pub notes : List Note
+
+abbrev pub place : List Said → ℕ → List Note → List Note → Place
+place said done begun notes = record { lines = lines said; done = done; begun = begun; notes = notes }
+
+-- so far a client has come, or it can't have
+pub data Come : Type 0 where
+  come : Place → Come
+  not_come : Place → Come
+
+abbrev pub IsCome : Come → Type 0
+IsCome (come p) = HasCome p.lines p.done p.begun p.notes
+IsCome (not_come p) = HasCome p.lines p.done p.begun p.notes → ⊥
+
+abbrev pub AreCome : List Come → Type 0
+AreCome [] = Unit {0}
+AreCome (c ∷ cs) = IsCome c × AreCome cs
+
+-- a read, a commit, and a load of a table that is defined just above it
+abbrev pub four_lines : List Said
+four_lines = gets_a ∷ puts_b ∷ line.table only_a ∷ line.c1 (cmd.Load (codes "l1") (codes "t" ∷ []) None) ∷ []
+
+abbrev pub two_done : List Note
+two_done = asked_a ∷ answered_a ∷ put_b ∷ []
+
+abbrev pub opening_l1 : Note
+opening_l1 = c1 (act.LoadOpen (codes "l1") (only_a ∷ []) None) reply.Opening
+
+-- what there may be
+abbrev pub ways : List Come
+ways =
+    come (place four_lines 0 [] [])
+    -- a read is under way
+    ∷ come (place four_lines 0 (asked_a ∷ []) (asked_a ∷ []))
+    ∷ come (place four_lines 1 [] (asked_a ∷ answered_a ∷ []))
+    -- a table has no notes
+    ∷ come (place four_lines 2 [] two_done)
+    ∷ come (place four_lines 3 [] two_done)
+    -- a load is under way
+    ∷ come (place four_lines 3 (opening_l1 ∷ []) (two_done ++ opening_l1 ∷ []))
+    -- all is said
+    ∷ come (place four_lines 4 [] (two_done ++ load_opened))
+    ∷ []
+
+-- what is done is counted right
+abbrev pub miscounted : List Come
+miscounted =
+    -- too far
+    not_come (place four_lines 1 [] [])
+    ∷ not_come (place four_lines 1 [] (asked_a ∷ []))
+    ∷ not_come (place four_lines 4 [] two_done)
+    -- not far enough
+    ∷ not_come (place four_lines 0 [] (asked_a ∷ answered_a ∷ []))
+    -- more lines than there are
+    ∷ not_come (place four_lines 5 [] (two_done ++ load_opened))
+    -- out of order
+    ∷ not_come (place four_lines 2 [] (put_b ∷ asked_a ∷ answered_a ∷ []))
+    ∷ []
+
+-- what is under way is the beginning of the next line's block, and the last of the notes
+abbrev pub under_way_wrong : List Come
+under_way_wrong =
+    -- of another line
+    not_come (place four_lines 0 (opening_l1 ∷ []) (opening_l1 ∷ []))
+    ∷ not_come (place four_lines 2 (opening_l1 ∷ []) (two_done ++ opening_l1 ∷ []))
+    ∷ not_come (place (line.c1 (line.ask (get (codes "b"))) ∷ []) 0 (asked_a ∷ []) (asked_a ∷ []))
+    ∷ not_come (place (line.c2 (line.ask (get (codes "a"))) ∷ []) 0 (asked_a ∷ []) (asked_a ∷ []))
+    -- behind the last line
+    ∷ not_come (place four_lines 4 (opening_l1 ∷ []) (two_done ++ load_opened ++ opening_l1 ∷ []))
+    -- the whole block
+    ∷ not_come (place four_lines 1 (put_b ∷ []) two_done)
+    ∷ not_come (place four_lines 0 (asked_a ∷ answered_a ∷ []) (asked_a ∷ answered_a ∷ []))
+    -- a refusal
+    ∷ not_come (place four_lines 0 (c1 (act.Ask 0 (get (codes "a")) false) reply.Memory ∷ []) (c1 (act.Ask 0 (get (codes "a")) false) reply.Memory ∷ []))
+    ∷ not_come (place (excises ∷ []) 0 (excise (codes "l1") (from_to (codes "a") (codes "m")) ∷ []) (excise (codes "l1") (from_to (codes "a") (codes "m")) ∷ []))
+    -- a load of other tables
+    ∷ not_come (place (line.c1 (cmd.Load (codes "l1") (codes "t" ∷ []) None) ∷ []) 0 (opening_l1 ∷ []) (opening_l1 ∷ []))
+    -- a question in parts
+    ∷ not_come (place (line.c1 (line.ask_in_parts (get (codes "a"))) ∷ []) 0 (asked_a ∷ []) (asked_a ∷ []))
+    -- not among the notes, or not the last of them
+    ∷ not_come (place four_lines 0 (asked_a ∷ []) [])
+    ∷ not_come (place four_lines 0 (asked_a ∷ []) (asked_a ∷ answered_a ∷ []))
     ∷ []

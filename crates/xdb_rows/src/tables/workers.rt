@@ -1,6 +1,6 @@
 //! Runs of scripts by workers.
 ghost use Rattle.xdb_rows.specs.Judged.{AreThreadsCases};
-ghost use Rattle.xdb_rows.specs.Tables.Workers.{left_over, active_group, compaction_left, failed_at_last, dead_left, due_replies, load_waits, await_waits, clients_in_order, reads_between, defined_for_all};
+ghost use Rattle.xdb_rows.specs.Tables.Workers.{left_over, active_group, compaction_left, failed_at_last, dead_left, due_replies, load_waits, await_waits, clients_in_order, reads_between, defined_for_all, AreCome, ways, miscounted, under_way_wrong};
 
 /// No sealed group and no job is left.
 pub fn left_over()
@@ -55,4 +55,19 @@ pub fn reads_between()
 /// A table is defined for every client.
 pub fn defined_for_all()
     ensures { AreThreadsCases defined_for_all }
+{}
+
+/// How far a client may have come.
+pub fn ways()
+    ensures { AreCome ways }
+{}
+
+/// What is done is counted right.
+pub fn miscounted()
+    ensures { AreCome miscounted }
+{}
+
+/// What is under way is the beginning of the next line's block.
+pub fn under_way_wrong()
+    ensures { AreCome under_way_wrong }
 {}
