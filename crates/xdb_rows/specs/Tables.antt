@@ -1,3 +1,4 @@
 pub mod Orders
 pub mod Runs
 pub mod Workers
+pub mod Told

@@ -2,3 +2,4 @@
 pub mod orders;
 pub mod runs;
 pub mod workers;
+pub mod told;

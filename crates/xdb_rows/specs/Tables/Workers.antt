@@ -1,7 +1,6 @@
 -- Runs of scripts by workers, and how far a client has come in its lines.
-use Rattle.std.specs.Prelude.{ℕ, true, false, List, [], ◌∷◌, ◌++◌, replicate, None, Some, codes}
-use Rattle.xdb_key.specs.declared.op.Op.TheVariants.{Set, Del}
-use Rattle.xdb_plain.specs.Tables.{TableOps, table_ops}
+use Rattle.std.specs.Prelude.{ℕ, false, List, [], ◌∷◌, ◌++◌, replicate, None, Some, codes}
+use Rattle.xdb_key.specs.declared.op.Op.TheVariants.{Del}
 use Rattle.xdb_plain.specs.Workers.{HasCome}
 use Rattle.xdb_plain.specs.declared.act.Act.TheVariants as act
 use Rattle.xdb_plain.specs.declared.act.StatusForm.TheVariants as status_form
@@ -339,8 +338,9 @@ under_way_wrong =
     -- a refusal
     ∷ not_come (place four_lines 0 (c1 (act.Ask 0 (get (codes "a")) false) reply.Memory ∷ []) (c1 (act.Ask 0 (get (codes "a")) false) reply.Memory ∷ []))
     ∷ not_come (place (excises ∷ []) 0 (excise (codes "l1") (from_to (codes "a") (codes "m")) ∷ []) (excise (codes "l1") (from_to (codes "a") (codes "m")) ∷ []))
-    -- a load of other tables
+    -- a load of a table that isn't defined, or is defined below
     ∷ not_come (place (line.c1 (cmd.Load (codes "l1") (codes "t" ∷ []) None) ∷ []) 0 (opening_l1 ∷ []) (opening_l1 ∷ []))
+    ∷ not_come (place (line.c1 (cmd.Load (codes "l1") (codes "t" ∷ []) None) ∷ line.table only_a ∷ []) 0 (opening_l1 ∷ []) (opening_l1 ∷ []))
     -- a question in parts
     ∷ not_come (place (line.c1 (line.ask_in_parts (get (codes "a"))) ∷ []) 0 (asked_a ∷ []) (asked_a ∷ []))
     -- not among the notes, or not the last of them
