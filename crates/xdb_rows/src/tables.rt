@@ -1,5 +1,5 @@
 //! Tables of cases that tell definitions apart: each notices a definition that is changed in one place.
 pub mod orders;
 pub mod runs;
-pub mod workers;
 pub mod told;
+pub mod workers;

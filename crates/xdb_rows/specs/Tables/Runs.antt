@@ -13,6 +13,7 @@ use Rattle.xdb_plain.specs.declared.note.HoldNote.TheVariants.{Hold, Release}
 use Rattle.xdb_plain.specs.declared.note.Note.{Note}
 use Rattle.xdb_plain.specs.declared.reply.Reply.TheVariants as reply
 use Rattle.xdb_plain.specs.declared.script.Cmd.TheVariants as cmd
+use Rattle.xdb_plain.specs.declared.script.Line.{Line}
 use Rattle.xdb_rows.specs.Judged.{RunCase, run, no_run}
 use Rattle.xdb_rows.specs.Lines as line
 use Rattle.xdb_rows.specs.Lines.{Said, lines}
@@ -24,7 +25,11 @@ abbrev pub flush_taken_lines : List Said
 flush_taken_lines = line.c1 (line.put (codes "a") (codes "1")) ∷ line.db cmd.Seal ∷ line.db cmd.FlushTake ∷ []
 
 abbrev pub flush_taken : List Note
-flush_taken = c1 (put (codes "a") (codes "1")) reply.Done ∷ db act.Seal (reply.Group 1) ∷ db act.FlushTake (reply.Job 1) ∷ []
+flush_taken =
+    c1 (put (codes "a") (codes "1")) reply.Done
+    ∷ db act.Seal (reply.Group 1)
+    ∷ db act.FlushTake (reply.Job 1)
+    ∷ []
 
 abbrev pub put_1 : Note
 put_1 = put_flush 1 (table_of_key 1 (codes "a") 1)
@@ -38,22 +43,25 @@ abbrev pub puts : List RunCase
 puts =
     -- the put waits until it is built
     run (lines (flush_taken_lines ++ line.db (cmd.Put 1) ∷ line.db (cmd.Build 1) ∷ line.db (cmd.Put 1) ∷ []))
-        (flush_taken ++ db (act.Put 1) reply.NotYet ∷ put_1 ∷ [])
+    (flush_taken ++ db (act.Put 1) reply.NotYet ∷ put_1 ∷ [])
     -- it isn't built
     ∷ no_run (lines (flush_taken_lines ++ line.db (cmd.Put 1) ∷ [])) (flush_taken ++ put_1 ∷ [])
     -- it is built
     ∷ no_run (lines (flush_taken_lines ++ line.db (cmd.Build 1) ∷ line.db (cmd.Put 1) ∷ []))
-        (flush_taken ++ db (act.Put 1) reply.NotYet ∷ [])
+    (flush_taken ++ db (act.Put 1) reply.NotYet ∷ [])
     -- a put that fails leaves what was built
-    ∷ run (lines (flush_taken_lines ++ line.db (cmd.Build 1) ∷ line.db (cmd.Put 1) ∷ line.db (cmd.Put 1) ∷ []))
-        (flush_taken ++ db (act.Put 1) reply.Memory ∷ put_1 ∷ [])
-    ∷ no_run (lines (flush_taken_lines ++ line.db (cmd.Build 1) ∷ line.db (cmd.Put 1) ∷ line.db (cmd.Put 1) ∷ []))
-        (flush_taken ++ db (act.Put 1) reply.Memory ∷ db (act.Put 1) reply.NotYet ∷ [])
+    ∷ run (lines (flush_taken_lines ++ line.db (cmd.Build 1) ∷ line.db (cmd.Put 1)
+    ∷ line.db (cmd.Put 1) ∷ []))
+    (flush_taken ++ db (act.Put 1) reply.Memory ∷ put_1 ∷ [])
+    ∷ no_run (lines (flush_taken_lines ++ line.db (cmd.Build 1) ∷ line.db (cmd.Put 1)
+    ∷ line.db (cmd.Put 1) ∷ []))
+    (flush_taken ++ db (act.Put 1) reply.Memory ∷ db (act.Put 1) reply.NotYet ∷ [])
     -- a job that is over doesn't wait, built or not
-    ∷ run (lines (flush_taken_lines ++ line.db (cmd.Build 1) ∷ line.db (cmd.Put 1) ∷ line.db (cmd.Put 1) ∷ []))
-        (flush_taken ++ put_1 ∷ db (act.Put 1) reply.NoSuch ∷ [])
+    ∷ run (lines (flush_taken_lines ++ line.db (cmd.Build 1) ∷ line.db (cmd.Put 1)
+    ∷ line.db (cmd.Put 1) ∷ []))
+    (flush_taken ++ put_1 ∷ db (act.Put 1) reply.NoSuch ∷ [])
     ∷ run (lines (flush_taken_lines ++ line.db (cmd.Build 1) ∷ line.db (cmd.Put 1) ∷ []))
-        (flush_taken ++ db (act.Build 1) reply.Memory ∷ db (act.Put 1) reply.NoSuch ∷ [])
+    (flush_taken ++ db (act.Build 1) reply.Memory ∷ db (act.Put 1) reply.NoSuch ∷ [])
     ∷ []
 
 -- a table stands in L0, and beside a flush as job 2 a compaction runs as job 3
@@ -93,25 +101,28 @@ build_3_fails = holding (db (act.Build 3) reply.Fault) (Release 1 ∷ [])
 abbrev pub builds : List RunCase
 builds =
     -- a failure
-    run (lines (flush_taken_lines ++ line.db (cmd.Build 1) ∷ [])) (flush_taken ++ db (act.Build 1) reply.Fault ∷ [])
+    run (lines (flush_taken_lines ++ line.db (cmd.Build 1) ∷ []))
+    (flush_taken ++ db (act.Build 1) reply.Fault ∷ [])
     -- it says so where there is no such job
     ∷ run (lines (line.db (cmd.Build 1) ∷ [])) (db (act.Build 1) reply.NoSuch ∷ [])
     ∷ no_run (lines (line.db (cmd.Build 1) ∷ [])) []
     -- it doesn't where the work is waited for
-    ∷ no_run (lines (flush_taken_lines ++ line.db (cmd.Build 1) ∷ [])) (flush_taken ++ db (act.Build 1) reply.NoSuch ∷ [])
+    ∷ no_run (lines (flush_taken_lines ++ line.db (cmd.Build 1) ∷ []))
+    (flush_taken ++ db (act.Build 1) reply.NoSuch ∷ [])
     -- built twice
     ∷ run (lines (flush_taken_lines ++ line.db (cmd.Build 1) ∷ line.db (cmd.Build 1) ∷ []))
-        (flush_taken ++ db (act.Build 1) reply.NoSuch ∷ [])
+    (flush_taken ++ db (act.Build 1) reply.NoSuch ∷ [])
     ∷ no_run (lines (flush_taken_lines ++ line.db (cmd.Build 1) ∷ line.db (cmd.Build 1) ∷ [])) flush_taken
     -- what was built doesn't fail
-    ∷ no_run (lines (flush_taken_lines ++ line.db (cmd.Build 1) ∷ line.db cmd.Seal ∷ line.db (cmd.Build 1) ∷ []))
-        (flush_taken ++ no_seal ∷ db (act.Build 1) reply.Fault ∷ [])
+    ∷ no_run (lines (flush_taken_lines ++ line.db (cmd.Build 1) ∷ line.db cmd.Seal
+    ∷ line.db (cmd.Build 1) ∷ []))
+    (flush_taken ++ no_seal ∷ db (act.Build 1) reply.Fault ∷ [])
     -- one job is built, and another fails
     ∷ run (lines (two_jobs_lines ++ line.db (cmd.Build 2) ∷ line.db (cmd.Build 3) ∷ line.db (cmd.Put 2) ∷ []))
-        (two_jobs ++ build_3_fails ∷ put_2 ∷ [])
+    (two_jobs ++ build_3_fails ∷ put_2 ∷ [])
     -- one job is built, and another waits
     ∷ run (lines (two_jobs_lines ++ line.db (cmd.Build 2) ∷ line.db (cmd.Put 3) ∷ line.db (cmd.Put 2) ∷ []))
-        (two_jobs ++ db (act.Put 3) reply.NotYet ∷ put_2 ∷ [])
+    (two_jobs ++ db (act.Put 3) reply.NotYet ∷ put_2 ∷ [])
     ∷ []
 
 -- a group is sealed
@@ -124,23 +135,27 @@ sealed = c1 (put (codes "a") (codes "1")) reply.Done ∷ db act.Seal (reply.Grou
 -- a flush has a beginning and an end
 abbrev pub whole_flushes : List RunCase
 whole_flushes =
-    run (lines (sealed_lines ++ line.db cmd.Flush ∷ [])) (sealed ++ db act.FlushTake (reply.Job 1) ∷ put_1 ∷ [])
-    ∷ run (lines (sealed_lines ++ line.db cmd.Flush ∷ [])) (sealed ++ db act.FlushTake (reply.Job 1) ∷ db (act.Build 1) reply.Fault ∷ [])
+    run (lines (sealed_lines ++ line.db cmd.Flush ∷ []))
+    (sealed ++ db act.FlushTake (reply.Job 1) ∷ put_1 ∷ [])
+    ∷ run (lines (sealed_lines ++ line.db cmd.Flush ∷ []))
+    (sealed ++ db act.FlushTake (reply.Job 1) ∷ db (act.Build 1) reply.Fault ∷ [])
     ∷ run (lines (line.db cmd.Flush ∷ [])) (db act.FlushTake reply.Nothing ∷ [])
     -- it is left open
     ∷ no_run (lines (sealed_lines ++ line.db cmd.Flush ∷ [])) (sealed ++ db act.FlushTake (reply.Job 1) ∷ [])
     -- it waits for nothing
     ∷ no_run (lines (sealed_lines ++ line.db cmd.Flush ∷ []))
-        (sealed ++ db act.FlushTake (reply.Job 1) ∷ db (act.Put 1) reply.NotYet ∷ [])
+    (sealed ++ db act.FlushTake (reply.Job 1) ∷ db (act.Put 1) reply.NotYet ∷ [])
     ∷ no_run (lines (sealed_lines ++ line.db cmd.Flush ∷ []))
-        (sealed ++ db act.FlushTake (reply.Job 1) ∷ db (act.Build 1) reply.NoSuch ∷ [])
+    (sealed ++ db act.FlushTake (reply.Job 1) ∷ db (act.Build 1) reply.NoSuch ∷ [])
     -- what follows its beginning is another's
-    ∷ no_run (lines (sealed_lines ++ line.db cmd.Flush ∷ [])) (sealed ++ db act.FlushTake (reply.Job 1) ∷ no_seal ∷ [])
+    ∷ no_run (lines (sealed_lines ++ line.db cmd.Flush ∷ []))
+    (sealed ++ db act.FlushTake (reply.Job 1) ∷ no_seal ∷ [])
     -- where its put fails, it was built
     ∷ run (lines (sealed_lines ++ line.db cmd.Flush ∷ line.db (cmd.Put 1) ∷ []))
-        (sealed ++ db act.FlushTake (reply.Job 1) ∷ db (act.Put 1) reply.Memory ∷ put_1 ∷ [])
+    (sealed ++ db act.FlushTake (reply.Job 1) ∷ db (act.Put 1) reply.Memory ∷ put_1 ∷ [])
     ∷ no_run (lines (sealed_lines ++ line.db cmd.Flush ∷ line.db (cmd.Put 1) ∷ []))
-        (sealed ++ db act.FlushTake (reply.Job 1) ∷ db (act.Put 1) reply.Memory ∷ db (act.Put 1) reply.NotYet ∷ [])
+    (sealed ++ db act.FlushTake (reply.Job 1) ∷ db (act.Put 1) reply.Memory
+    ∷ db (act.Put 1) reply.NotYet ∷ [])
     ∷ []
 
 -- a flush as job 2 runs, and a compaction is made
@@ -158,7 +173,8 @@ compacted_lines =
 
 abbrev pub put_3 : Note
 put_3 =
-    holding (changing (db (act.Put 3) reply.Installed) (changes ((0, 1) ∷ []) (3 ∷ []) ((1, table_of_key 3 (codes "a") 1) ∷ []))) (Release 1 ∷ [])
+    holding (changing (db (act.Put 3) reply.Installed)
+    (changes ((0, 1) ∷ []) (3 ∷ []) ((1, table_of_key 3 (codes "a") 1) ∷ []))) (Release 1 ∷ [])
 
 -- so has a compaction
 abbrev pub whole_compactions : List RunCase
@@ -172,9 +188,9 @@ whole_compactions =
     ∷ no_run (lines compacted_lines) (two_jobs ++ db (act.Build 2) reply.Fault ∷ [])
     -- where its put fails, it was built
     ∷ run (lines (compacted_lines ++ line.db (cmd.Put 3) ∷ []))
-        (two_jobs ++ db (act.Put 3) reply.Memory ∷ put_3 ∷ db act.Reap (reply.Took 1) ∷ [])
+    (two_jobs ++ db (act.Put 3) reply.Memory ∷ put_3 ∷ db act.Reap (reply.Took 1) ∷ [])
     ∷ no_run (lines (compacted_lines ++ line.db (cmd.Put 3) ∷ []))
-        (two_jobs ++ db (act.Put 3) reply.Memory ∷ db (act.Put 3) reply.NotYet ∷ [])
+    (two_jobs ++ db (act.Put 3) reply.Memory ∷ db (act.Put 3) reply.NotYet ∷ [])
     ∷ []
 
 -- flushes begin files in vain
@@ -207,26 +223,31 @@ abbrev pub reaps : List RunCase
 reaps =
     -- each number may be followed by its removal
     run (lines (two_tried_lines ++ line.db cmd.Reap ∷ [])) (two_tried ++ took 1 ∷ stuck 1 ∷ took 2 ∷ [])
-    ∷ run (lines (two_tried_lines ++ line.db cmd.Reap ∷ [])) (two_tried ++ took 1 ∷ took 2 ∷ db (act.Remove 2) reply.Memory ∷ [])
+    ∷ run (lines (two_tried_lines ++ line.db cmd.Reap ∷ []))
+    (two_tried ++ took 1 ∷ took 2 ∷ db (act.Remove 2) reply.Memory ∷ [])
     -- a removal is told once
-    ∷ no_run (lines (two_tried_lines ++ line.db cmd.Reap ∷ [])) (two_tried ++ took 1 ∷ stuck 1 ∷ stuck 1 ∷ took 2 ∷ [])
+    ∷ no_run (lines (two_tried_lines ++ line.db cmd.Reap ∷ []))
+    (two_tried ++ took 1 ∷ stuck 1 ∷ stuck 1 ∷ took 2 ∷ [])
     -- it follows its own number
     ∷ no_run (lines (two_tried_lines ++ line.db cmd.Reap ∷ [])) (two_tried ++ took 1 ∷ took 2 ∷ stuck 1 ∷ [])
     -- it belongs to the reap that took the number
     ∷ no_run (lines (one_tried_lines ++ line.db cmd.Reap ∷ line.db cmd.Flush ∷ line.db cmd.Reap ∷ []))
-        (one_tried ++ took 1 ∷ again ++ stuck 1 ∷ took 2 ∷ [])
-    ∷ no_run (lines (one_tried_lines ++ line.db cmd.Reap ∷ line.db cmd.Reap ∷ [])) (one_tried ++ took 1 ∷ no_reap ∷ stuck 1 ∷ [])
+    (one_tried ++ took 1 ∷ again ++ stuck 1 ∷ took 2 ∷ [])
+    ∷ no_run (lines (one_tried_lines ++ line.db cmd.Reap ∷ line.db cmd.Reap ∷ []))
+    (one_tried ++ took 1 ∷ no_reap ∷ stuck 1 ∷ [])
     ∷ []
 
 -- it says that there is none only where there was none at first
 abbrev pub reaps_of_nothing : List RunCase
 reaps_of_nothing =
-    run (lines (one_tried_lines ++ line.db cmd.Reap ∷ line.db cmd.Reap ∷ [])) (one_tried ++ took 1 ∷ no_reap ∷ [])
+    run (lines (one_tried_lines ++ line.db cmd.Reap ∷ line.db cmd.Reap ∷ []))
+    (one_tried ++ took 1 ∷ no_reap ∷ [])
     ∷ no_run (lines (one_tried_lines ++ line.db cmd.Reap ∷ [])) (one_tried ++ took 1 ∷ no_reap ∷ [])
     ∷ no_run (lines (line.db cmd.Reap ∷ [])) []
     ∷ no_run (lines (line.db cmd.Reap ∷ [])) (no_reap ∷ no_reap ∷ [])
     -- it leaves nothing for a later one
-    ∷ no_run (lines (two_tried_lines ++ line.db cmd.Reap ∷ line.db cmd.Seal ∷ [])) (two_tried ++ took 1 ∷ no_seal ∷ took 2 ∷ [])
+    ∷ no_run (lines (two_tried_lines ++ line.db cmd.Reap ∷ line.db cmd.Seal ∷ []))
+    (two_tried ++ took 1 ∷ no_seal ∷ took 2 ∷ [])
     ∷ []
 
 -- the end of a run takes all that is dead
@@ -244,7 +265,8 @@ drains =
     ∷ no_run (lines one_tried_lines) (one_tried ++ took 1 ∷ stuck 1 ∷ stuck 1 ∷ [])
     ∷ no_run (lines two_tried_lines) (two_tried ++ took 1 ∷ took 2 ∷ stuck 1 ∷ [])
     -- a removal of what a line took
-    ∷ no_run (lines (one_tried_lines ++ line.db cmd.Reap ∷ line.db cmd.Seal ∷ [])) (one_tried ++ took 1 ∷ no_seal ∷ stuck 1 ∷ [])
+    ∷ no_run (lines (one_tried_lines ++ line.db cmd.Reap ∷ line.db cmd.Seal ∷ []))
+    (one_tried ++ took 1 ∷ no_seal ∷ stuck 1 ∷ [])
     -- nothing else follows
     ∷ no_run (lines one_tried_lines) (one_tried ++ took 1 ∷ no_seal ∷ [])
     ∷ []
@@ -259,38 +281,41 @@ asked_a = ask_held 1 (get (codes "a")) false (Hold 1 0)
 abbrev pub answered_a : Note
 answered_a = ask_answered 1 (get (codes "a")) 1 (reply.Answered Absent)
 
+-- the same question in parts
+abbrev pub begun_a : Note
+begun_a = ask_held 1 (get (codes "a")) true (Hold 1 0)
+
+abbrev pub settled_a : Note
+settled_a = let_go (act.Settle 1) (reply.Answered Absent) 1
+
 -- a read has its answer, its failure or its refusal
 abbrev pub reads : List RunCase
 reads =
     run (lines (get_a_line ∷ [])) (asked_a ∷ answered_a ∷ [])
     ∷ run (lines (get_a_line ∷ [])) (asked_a ∷ ask_answered 1 (get (codes "a")) 1 reply.Fault ∷ [])
-    ∷ run (lines (line.c1 (line.ask (get_at (codes "a") (codes "s1"))) ∷ [])) (ask_refused (get_at (codes "a") (codes "s1")) reply.NoSuch ∷ [])
+    ∷ run (lines (line.c1 (line.ask (get_at (codes "a") (codes "s1"))) ∷ []))
+    (ask_refused (get_at (codes "a") (codes "s1")) reply.NoSuch ∷ [])
     -- it isn't asked, or isn't answered
     ∷ no_run (lines (get_a_line ∷ [])) []
     ∷ no_run (lines (get_a_line ∷ [])) (asked_a ∷ [])
     -- what follows is the refusal of another
     ∷ no_run (lines (get_a_line ∷ [])) (asked_a ∷ ask_refused (get (codes "a")) reply.Memory ∷ [])
     -- the answer is given to another client
-    ∷ no_run (lines (get_a_line ∷ [])) (asked_a ∷ holding (c2 (act.Ask 1 (get (codes "a")) false) (reply.Answered Absent)) (Release 1 ∷ []) ∷ [])
+    ∷ no_run (lines (get_a_line ∷ [])) (asked_a
+    ∷ holding (c2 (act.Ask 1 (get (codes "a")) false) (reply.Answered Absent)) (Release 1 ∷ []) ∷ [])
     -- another client or another question
     ∷ no_run (lines (line.c2 (line.ask (get (codes "a"))) ∷ [])) (asked_a ∷ answered_a ∷ [])
     ∷ no_run (lines (line.c1 (line.ask (get (codes "b"))) ∷ [])) (asked_a ∷ answered_a ∷ [])
     -- it is asked in parts
-    ∷ no_run (lines (get_a_line ∷ [])) (ask_held 1 (get (codes "a")) true (Hold 1 0) ∷ let_go (act.Settle 1) (reply.Answered Absent) 1 ∷ [])
+    ∷ no_run (lines (get_a_line ∷ [])) (begun_a ∷ settled_a ∷ [])
     -- the next one is asked before it is answered
     ∷ no_run (lines (get_a_line ∷ line.c1 (line.ask (get (codes "b"))) ∷ []))
-        (asked_a ∷ ask_held 2 (get (codes "b")) false (Hold 2 0) ∷ answered_a ∷ ask_answered 2 (get (codes "b")) 2 (reply.Answered Absent) ∷ [])
+    (asked_a ∷ ask_held 2 (get (codes "b")) false (Hold 2 0) ∷ answered_a
+    ∷ ask_answered 2 (get (codes "b")) 2 (reply.Answered Absent) ∷ [])
     ∷ []
 
--- a question in parts
 abbrev pub begin_a_line : Said
 begin_a_line = line.c1 (line.ask_in_parts (get (codes "a")))
-
-abbrev pub begun_a : Note
-begun_a = ask_held 1 (get (codes "a")) true (Hold 1 0)
-
-abbrev pub settled_a : Note
-settled_a = let_go (act.Settle 1) (reply.Answered Absent) 1
 
 abbrev pub settle_line : Said
 settle_line = line.c1 (cmd.Settle 1)
@@ -301,23 +326,29 @@ work_line = line.db (cmd.Work 1)
 abbrev pub begun_b : Note
 begun_b = ask_held 2 (get (codes "b")) true (Hold 2 0)
 
+abbrev pub settled_b : Note
+settled_b = let_go (act.Settle 2) (reply.Answered Absent) 2
+
 abbrev pub begin_both : List Said
 begin_both = begin_a_line ∷ line.c1 (line.ask_in_parts (get (codes "b"))) ∷ []
 
 -- a question in parts is settled once it was worked at
 abbrev pub settles : List RunCase
 settles =
-    run (lines (begin_a_line ∷ settle_line ∷ work_line ∷ settle_line ∷ [])) (begun_a ∷ c1 (act.Settle 1) reply.NotYet ∷ settled_a ∷ [])
+    run (lines (begin_a_line ∷ settle_line ∷ work_line ∷ settle_line ∷ []))
+    (begun_a ∷ c1 (act.Settle 1) reply.NotYet ∷ settled_a ∷ [])
     -- before the work
     ∷ no_run (lines (begin_a_line ∷ settle_line ∷ [])) (begun_a ∷ settled_a ∷ [])
     -- behind it
-    ∷ no_run (lines (begin_a_line ∷ work_line ∷ settle_line ∷ [])) (begun_a ∷ c1 (act.Settle 1) reply.NotYet ∷ [])
+    ∷ no_run (lines (begin_a_line ∷ work_line ∷ settle_line ∷ []))
+    (begun_a ∷ c1 (act.Settle 1) reply.NotYet ∷ [])
     -- behind its failure
     ∷ run (lines (begin_a_line ∷ work_line ∷ settle_line ∷ []))
-        (begun_a ∷ holding (db (act.Work 1) reply.Fault) (Release 1 ∷ []) ∷ c1 (act.Settle 1) reply.NoSuch ∷ [])
+    (begun_a ∷ holding (db (act.Work 1) reply.Fault) (Release 1 ∷ [])
+    ∷ c1 (act.Settle 1) reply.NoSuch ∷ [])
     -- the work of another question
     ∷ run (lines (begin_both ++ line.db (cmd.Work 2) ∷ settle_line ∷ line.c1 (cmd.Settle 2) ∷ []))
-        (begun_a ∷ begun_b ∷ c1 (act.Settle 1) reply.NotYet ∷ let_go (act.Settle 2) (reply.Answered Absent) 2 ∷ [])
+    (begun_a ∷ begun_b ∷ c1 (act.Settle 1) reply.NotYet ∷ settled_b ∷ [])
     -- by another client
     ∷ no_run (lines (begin_a_line ∷ work_line ∷ line.c2 (cmd.Settle 1) ∷ [])) (begun_a ∷ settled_a ∷ [])
     -- it isn't asked in parts
@@ -337,10 +368,10 @@ works =
     ∷ run (lines (begin_a_line ∷ work_line ∷ work_line ∷ [])) (begun_a ∷ db (act.Work 1) reply.NoSuch ∷ [])
     ∷ no_run (lines (begin_a_line ∷ work_line ∷ work_line ∷ [])) (begun_a ∷ [])
     ∷ no_run (lines (begin_a_line ∷ work_line ∷ line.db cmd.Seal ∷ work_line ∷ []))
-        (begun_a ∷ no_seal ∷ holding (db (act.Work 1) reply.Fault) (Release 1 ∷ []) ∷ [])
+    (begun_a ∷ no_seal ∷ holding (db (act.Work 1) reply.Fault) (Release 1 ∷ []) ∷ [])
     -- one is worked at, and another fails
     ∷ run (lines (begin_both ++ work_line ∷ line.db (cmd.Work 2) ∷ settle_line ∷ []))
-        (begun_a ∷ begun_b ∷ holding (db (act.Work 2) reply.Fault) (Release 2 ∷ []) ∷ settled_a ∷ [])
+    (begun_a ∷ begun_b ∷ holding (db (act.Work 2) reply.Fault) (Release 2 ∷ []) ∷ settled_a ∷ [])
     ∷ []
 
 abbrev pub only_c : TableOps
@@ -365,40 +396,50 @@ in_use = c1 (act.LoadOpen (codes "l1") (only_a ∷ []) None) reply.NameInUse
 abbrev pub openings : List RunCase
 openings =
     run (lines (table_line ∷ load_line ∷ [])) (opens opened)
-    ∷ run (lines (table_line ∷ load_line ∷ [])) (opens (c1 (act.LoadOpen (codes "l1") (only_a ∷ []) None) reply.Fault))
-    ∷ run (lines (table_line ∷ load_line ∷ [])) (opens (c1 (act.LoadOpen (codes "l1") (only_a ∷ []) None) reply.Memory))
-    ∷ run (lines (line.c1 (cmd.Load (codes "l1") [] None) ∷ [])) (c1 (act.LoadOpen (codes "l1") [] None) reply.Nothing ∷ [])
+    ∷ run (lines (table_line ∷ load_line ∷ []))
+    (opens (c1 (act.LoadOpen (codes "l1") (only_a ∷ []) None) reply.Fault))
+    ∷ run (lines (table_line ∷ load_line ∷ []))
+    (opens (c1 (act.LoadOpen (codes "l1") (only_a ∷ []) None) reply.Memory))
+    ∷ run (lines (line.c1 (cmd.Load (codes "l1") [] None) ∷ []))
+    (c1 (act.LoadOpen (codes "l1") [] None) reply.Nothing ∷ [])
     -- it is left opening
-    ∷ no_run (lines (table_line ∷ load_line ∷ [])) (c1 (act.LoadOpen (codes "l1") (only_a ∷ []) None) reply.Opening ∷ [])
+    ∷ no_run (lines (table_line ∷ load_line ∷ []))
+    (c1 (act.LoadOpen (codes "l1") (only_a ∷ []) None) reply.Opening ∷ [])
     -- the name is in use behind its end, and that isn't its end
     ∷ run (lines (table_line ∷ load_line ∷ load_line ∷ [])) (opens opened ++ in_use ∷ [])
     ∷ no_run (lines (table_line ∷ load_line ∷ [])) (opens in_use)
     -- it is found opening still
     ∷ no_run (lines (table_line ∷ load_line ∷ [])) (opens (c1 (act.LoadKept (codes "l1")) reply.NotYet))
     -- another load is opened
-    ∷ no_run (lines (table_line ∷ load_line ∷ [])) (opens (excise (codes "l2") (from_to (codes "m") (codes "z"))))
+    ∷ no_run (lines (table_line ∷ load_line ∷ []))
+    (opens (excise (codes "l2") (from_to (codes "m") (codes "z"))))
     ∷ []
 
 -- a load has the tables of its names
 abbrev pub named_tables : List RunCase
 named_tables =
     -- in the order of the names
-    run (lines (table_line ∷ line.table only_c ∷ line.c1 (cmd.Load (codes "l1") (codes "u" ∷ codes "t" ∷ []) None) ∷ []))
-        (c1 (act.LoadOpen (codes "l1") (only_c ∷ only_a ∷ []) None) reply.Opening
-        ∷ c1 (act.LoadOpen (codes "l1") (only_c ∷ only_a ∷ []) None) reply.Opened ∷ [])
+    run (lines (table_line ∷ line.table only_c
+    ∷ line.c1 (cmd.Load (codes "l1") (codes "u" ∷ codes "t" ∷ []) None) ∷ []))
+    (c1 (act.LoadOpen (codes "l1") (only_c ∷ only_a ∷ []) None) reply.Opening
+    ∷ c1 (act.LoadOpen (codes "l1") (only_c ∷ only_a ∷ []) None) reply.Opened ∷ [])
     -- in the order of the definitions
-    ∷ no_run (lines (table_line ∷ line.table only_c ∷ line.c1 (cmd.Load (codes "l1") (codes "u" ∷ codes "t" ∷ []) None) ∷ []))
-        (c1 (act.LoadOpen (codes "l1") (only_a ∷ only_c ∷ []) None) reply.Opening
-        ∷ c1 (act.LoadOpen (codes "l1") (only_a ∷ only_c ∷ []) None) reply.Opened ∷ [])
+    ∷ no_run (lines (table_line ∷ line.table only_c
+    ∷ line.c1 (cmd.Load (codes "l1") (codes "u" ∷ codes "t" ∷ []) None) ∷ []))
+    (c1 (act.LoadOpen (codes "l1") (only_a ∷ only_c ∷ []) None) reply.Opening
+    ∷ c1 (act.LoadOpen (codes "l1") (only_a ∷ only_c ∷ []) None) reply.Opened ∷ [])
     -- defined later, for a later load
-    ∷ run (lines (table_line ∷ load_line ∷ line.table only_c ∷ line.c1 (cmd.Load (codes "l2") (codes "u" ∷ []) None) ∷ []))
-        (opens opened
-        ++ c1 (act.LoadOpen (codes "l2") (only_c ∷ []) None) reply.Opening
-        ∷ c1 (act.LoadOpen (codes "l2") (only_c ∷ []) None) reply.Opened ∷ [])
+    ∷ run (lines (table_line ∷ load_line ∷ line.table only_c
+    ∷ line.c1 (cmd.Load (codes "l2") (codes "u" ∷ []) None) ∷ []))
+    (opens opened
+    ++ c1 (act.LoadOpen (codes "l2") (only_c ∷ []) None) reply.Opening
+    ∷ c1 (act.LoadOpen (codes "l2") (only_c ∷ []) None) reply.Opened ∷ [])
     -- another table, and no table
-    ∷ no_run (lines (table_line ∷ line.table only_c ∷ line.c1 (cmd.Load (codes "l1") (codes "u" ∷ []) None) ∷ [])) (opens opened)
-    ∷ no_run (lines (table_line ∷ line.c1 (cmd.Load (codes "l1") (codes "t" ∷ []) (Some (from_to (codes "a") (codes "m")))) ∷ []))
-        (excise (codes "l1") (from_to (codes "a") (codes "m")) ∷ [])
+    ∷ no_run (lines (table_line ∷ line.table only_c
+    ∷ line.c1 (cmd.Load (codes "l1") (codes "u" ∷ []) None) ∷ [])) (opens opened)
+    ∷ no_run (lines (table_line ∷ line.c1 (cmd.Load (codes "l1") (codes "t" ∷ [])
+    (Some (from_to (codes "a") (codes "m")))) ∷ []))
+    (excise (codes "l1") (from_to (codes "a") (codes "m")) ∷ [])
     -- a definition has no note
     ∷ no_run (lines (table_line ∷ [])) (no_seal ∷ [])
     ∷ []
@@ -429,19 +470,27 @@ lines_in_order =
 -- commands of a client, as they are said
 abbrev pub clients_notes : List RunCase
 clients_notes =
-    no_run (lines (line.c1 (line.put (codes "a") (codes "1")) ∷ [])) (c1 (act.Commit form.Batch (Set (codes "a") (codes "1") ∷ [])) reply.Done ∷ [])
-    ∷ no_run (lines (line.c1 (line.put (codes "a") (codes "1")) ∷ [])) (c1 (put (codes "a") (codes "2")) reply.Done ∷ [])
-    ∷ no_run (lines (line.c1 (line.put (codes "a") (codes "1")) ∷ [])) (c2 (put (codes "a") (codes "1")) reply.Done ∷ [])
+    no_run (lines (line.c1 (line.put (codes "a") (codes "1")) ∷ []))
+    (c1 (act.Commit form.Batch (Set (codes "a") (codes "1") ∷ [])) reply.Done ∷ [])
+    ∷ no_run (lines (line.c1 (line.put (codes "a") (codes "1")) ∷ []))
+    (c1 (put (codes "a") (codes "2")) reply.Done ∷ [])
+    ∷ no_run (lines (line.c1 (line.put (codes "a") (codes "1")) ∷ []))
+    (c2 (put (codes "a") (codes "1")) reply.Done ∷ [])
     ∷ no_run (lines (line.c1 (cmd.Settle 1) ∷ [])) (c1 (act.Settle 2) reply.NoSuch ∷ [])
     ∷ no_run (lines (line.c1 (cmd.Snap (codes "s1") (from_to (codes "a") (codes "m") ∷ [])) ∷ []))
-        (holding (c1 (act.Snap (codes "s1") (from_to (codes "a") (codes "n") ∷ [])) reply.FileOnly) (Hold 1 0 ∷ []) ∷ [])
+    (holding (c1 (act.Snap (codes "s1") (from_to (codes "a") (codes "n") ∷ [])) reply.FileOnly)
+    (Hold 1 0 ∷ []) ∷ [])
     ∷ no_run (lines (line.c1 (cmd.Drop (codes "s1")) ∷ [])) (c1 (act.Drop (codes "s2")) reply.NoSuch ∷ [])
-    ∷ no_run (lines (line.c1 (cmd.Status (codes "s1") status_form.Status) ∷ [])) (c1 (act.Status (codes "s1") status_form.Await) reply.NoSuch ∷ [])
+    ∷ no_run (lines (line.c1 (cmd.Status (codes "s1") status_form.Status) ∷ []))
+    (c1 (act.Status (codes "s1") status_form.Await) reply.NoSuch ∷ [])
     ∷ no_run (lines (line.c1 (cmd.Cursor (codes "k") (from_to (codes "a") (codes "m")) None) ∷ []))
-        (holding (c1 (act.Cursor (codes "k") (from_to (codes "a") (codes "n")) None) reply.CursorOn) (Hold 1 0 ∷ []) ∷ [])
+    (holding (c1 (act.Cursor (codes "k") (from_to (codes "a") (codes "n")) None) reply.CursorOn)
+    (Hold 1 0 ∷ []) ∷ [])
     ∷ no_run (lines (line.c1 (cmd.Shut (codes "k")) ∷ [])) (c1 (act.Shut (codes "j")) reply.NoSuch ∷ [])
-    ∷ no_run (lines (line.c1 (cmd.Load (codes "l1") [] (Some (from_to (codes "a") (codes "m")))) ∷ [])) (excise (codes "l1") (from_to (codes "a") (codes "n")) ∷ [])
-    ∷ no_run (lines (line.c1 (cmd.Install (codes "l1")) ∷ [])) (c1 (act.Install (codes "l2")) reply.NoSuch ∷ [])
+    ∷ no_run (lines (line.c1 (cmd.Load (codes "l1") [] (Some (from_to (codes "a") (codes "m")))) ∷ []))
+    (excise (codes "l1") (from_to (codes "a") (codes "n")) ∷ [])
+    ∷ no_run (lines (line.c1 (cmd.Install (codes "l1")) ∷ []))
+    (c1 (act.Install (codes "l2")) reply.NoSuch ∷ [])
     ∷ []
 
 -- commands of the owner, as they are said
@@ -450,8 +499,10 @@ owners_notes =
     no_run (lines (line.db cmd.Seal ∷ [])) (db act.FlushTake reply.Nothing ∷ [])
     ∷ no_run (lines (line.db cmd.FlushTake ∷ [])) (no_seal ∷ [])
     ∷ no_run (lines (line.db cmd.Flush ∷ [])) (db (act.CompactTake Auto) reply.Nothing ∷ [])
-    ∷ no_run (lines (line.db (cmd.CompactTake Auto) ∷ [])) (db (compact_l0 (from_to (codes "a") (codes "m"))) reply.Nothing ∷ [])
-    ∷ no_run (lines (line.db (cmd.Compact Auto) ∷ [])) (db (compact_l0 (from_to (codes "a") (codes "m"))) reply.Nothing ∷ [])
+    ∷ no_run (lines (line.db (cmd.CompactTake Auto) ∷ []))
+    (db (compact_l0 (from_to (codes "a") (codes "m"))) reply.Nothing ∷ [])
+    ∷ no_run (lines (line.db (cmd.Compact Auto) ∷ []))
+    (db (compact_l0 (from_to (codes "a") (codes "m"))) reply.Nothing ∷ [])
     ∷ no_run (lines (line.db (cmd.Put 1) ∷ [])) (db (act.Put 2) reply.NoSuch ∷ [])
     ∷ no_run (lines (line.db (cmd.Build 1) ∷ [])) (db (act.Build 2) reply.NoSuch ∷ [])
     ∷ no_run (lines (line.db (cmd.Work 1) ∷ [])) (db (act.Work 2) reply.NoSuch ∷ [])
@@ -463,35 +514,52 @@ owners_notes =
 abbrev pub every_command : List RunCase
 every_command =
     run (lines (line.c1 (line.put (codes "a") (codes "1"))
-        ∷ line.c1 (cmd.Settle 1)
-        ∷ line.c1 (cmd.Snap (codes "s1") (from_to (codes "m") (codes "z") ∷ []))
-        ∷ line.c1 (cmd.Drop (codes "s2"))
-        ∷ line.c1 (cmd.Status (codes "s1") status_form.Await)
-        ∷ line.c1 (cmd.Cursor (codes "k") (from_to (codes "a") (codes "m")) (Some (codes "s2")))
-        ∷ line.c1 (cmd.Shut (codes "k"))
-        ∷ line.c1 (cmd.Load (codes "l1") [] (Some (from_to (codes "m") (codes "z"))))
-        ∷ line.c1 (cmd.Install (codes "l2"))
-        ∷ line.db cmd.FlushTake
-        ∷ line.db (cmd.CompactTake Auto)
-        ∷ line.db (cmd.Compact Auto)
-        ∷ line.db (cmd.Put 1)
-        ∷ line.db (cmd.Show show.Counts)
-        ∷ line.db cmd.Seal
-        ∷ []))
-        (put_a
-        ∷ c1 (act.Settle 1) reply.NoSuch
-        ∷ holding (c1 (act.Snap (codes "s1") (from_to (codes "m") (codes "z") ∷ [])) reply.FileOnly) (Hold 1 0 ∷ [])
-        ∷ c1 (act.Drop (codes "s2")) reply.NoSuch
-        ∷ c1 (act.Status (codes "s1") status_form.Await) reply.FileOnly
-        ∷ c1 (act.Cursor (codes "k") (from_to (codes "a") (codes "m")) (Some (codes "s2"))) reply.NoSuch
-        ∷ c1 (act.Shut (codes "k")) reply.NoSuch
-        ∷ excise (codes "l1") (from_to (codes "m") (codes "z"))
-        ∷ c1 (act.Install (codes "l2")) reply.NoSuch
-        ∷ db act.FlushTake reply.Nothing
-        ∷ db (act.CompactTake Auto) reply.Nothing
-        ∷ db (act.CompactTake Auto) reply.Nothing
-        ∷ db (act.Put 1) reply.NoSuch
-        ∷ db (act.Show show.Counts) (reply.Counts [])
-        ∷ db act.Seal (reply.Group 1)
-        ∷ [])
+    ∷ line.c1 (cmd.Settle 1)
+    ∷ line.c1 (cmd.Snap (codes "s1") (from_to (codes "m") (codes "z") ∷ []))
+    ∷ line.c1 (cmd.Drop (codes "s2"))
+    ∷ line.c1 (cmd.Status (codes "s1") status_form.Await)
+    ∷ line.c1 (cmd.Cursor (codes "k") (from_to (codes "a") (codes "m")) (Some (codes "s2")))
+    ∷ line.c1 (cmd.Shut (codes "k"))
+    ∷ line.c1 (cmd.Load (codes "l1") [] (Some (from_to (codes "m") (codes "z"))))
+    ∷ line.c1 (cmd.Install (codes "l2"))
+    ∷ line.db cmd.FlushTake
+    ∷ line.db (cmd.CompactTake Auto)
+    ∷ line.db (cmd.Compact Auto)
+    ∷ line.db (cmd.Put 1)
+    ∷ line.db (cmd.Show show.Counts)
+    ∷ line.db cmd.Seal
+    ∷ []))
+    (put_a
+    ∷ c1 (act.Settle 1) reply.NoSuch
+    ∷ holding (c1 (act.Snap (codes "s1") (from_to (codes "m") (codes "z") ∷ [])) reply.FileOnly)
+    (Hold 1 0 ∷ [])
+    ∷ c1 (act.Drop (codes "s2")) reply.NoSuch
+    ∷ c1 (act.Status (codes "s1") status_form.Await) reply.FileOnly
+    ∷ c1 (act.Cursor (codes "k") (from_to (codes "a") (codes "m")) (Some (codes "s2"))) reply.NoSuch
+    ∷ c1 (act.Shut (codes "k")) reply.NoSuch
+    ∷ excise (codes "l1") (from_to (codes "m") (codes "z"))
+    ∷ c1 (act.Install (codes "l2")) reply.NoSuch
+    ∷ db act.FlushTake reply.Nothing
+    ∷ db (act.CompactTake Auto) reply.Nothing
+    ∷ db (act.CompactTake Auto) reply.Nothing
+    ∷ db (act.Put 1) reply.NoSuch
+    ∷ db (act.Show show.Counts) (reply.Counts [])
+    ∷ db act.Seal (reply.Group 1)
+    ∷ [])
+    ∷ []
+
+-- a run from another first file number on: a number that a compaction would have if the numbers began with 1 is dead
+abbrev pub from_7_lines : List Line
+from_7_lines =
+    lines (one_tried_lines ++ line.db cmd.Flush
+    ∷ line.db (line.compact_l0 (from_to (codes "a") (codes "b"))) ∷ [])
+
+abbrev pub from_7 : List Note
+from_7 =
+    sealed
+    ++ db act.FlushTake (reply.Job 1)
+    ∷ trying (db (act.Build 1) reply.Fault) (7 ∷ [])
+    ∷ db act.FlushTake (reply.Job 2)
+    ∷ put_flush 2 (table_of_key 8 (codes "a") 1)
+    ∷ compaction_taken
     ∷ []

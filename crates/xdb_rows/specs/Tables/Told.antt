@@ -11,6 +11,7 @@ use Rattle.xdb_plain.specs.Tables.{TableOps, table_ops}
 use Rattle.xdb_plain.specs.Upkeep.{flush_due, compact_due}
 use Rattle.xdb_plain.specs.Workers.{ends_failed, is_failure}
 use Rattle.xdb_plain.specs.declared.act.Act.TheVariants as act
+use Rattle.xdb_plain.specs.declared.act.ShowWhat.TheVariants as show
 use Rattle.xdb_plain.specs.declared.act.Which.TheVariants.{Auto}
 use Rattle.xdb_plain.specs.declared.note.HoldNote.TheVariants.{Hold, Release}
 use Rattle.xdb_plain.specs.declared.note.Note.{Note}
@@ -51,10 +52,18 @@ abbrev pub fault_counts : List (ℕ × ℕ)
 fault_counts =
     (faults [], 0)
     ∷ (faults (put_a ∷ sealed 1 ∷ flush_taken 1 ∷ build_fails ∷ took 1 ∷ stuck 1 ∷ []), 2)
-    ∷ (faults (ask_held 1 (get (codes "a")) false (Hold 1 0) ∷ ask_answered 1 (get (codes "a")) 1 reply.Fault ∷ []), 1)
+    ∷ (
+      faults (ask_held 1 (get (codes "a")) false (Hold 1 0)
+          ∷ ask_answered 1 (get (codes "a")) 1 reply.Fault ∷ []),
+      1,
+    )
     ∷ (faults (stuck 1 ∷ stuck 2 ∷ stuck 3 ∷ []), 3)
     -- want of memory, damage and spent numbers are none
-    ∷ (faults (db (act.Remove 1) reply.Memory ∷ build_damaged ∷ db act.FlushTake reply.Spent ∷ db act.Reap reply.Nothing ∷ []), 0)
+    ∷ (
+      faults (db (act.Remove 1) reply.Memory ∷ build_damaged ∷ db act.FlushTake reply.Spent
+          ∷ db act.Reap reply.Nothing ∷ []),
+      0,
+    )
     ∷ []
 
 -- bytes were damaged, and neither that nor a failing device
@@ -84,6 +93,15 @@ failures_counted =
     ∷ (ends_failed (put_a ∷ db (act.CompactTake Auto) reply.Spent ∷ []), true)
     ∷ (ends_failed (put_a ∷ db (act.Put 1) (reply.Cancelled (codes "l1")) ∷ []), false)
     ∷ (ends_failed (put_a ∷ stuck 1 ∷ []), false)
+    -- notes that no flush and no compaction goes by stand behind
+    ∷ (ends_failed (db act.FlushTake reply.Spent ∷ took 1 ∷ stuck 1 ∷ sealed 2 ∷ []), true)
+    ∷ (
+      ends_failed (db act.FlushTake reply.Spent ∷ db (act.Work 1) reply.NoSuch
+          ∷ db (act.Show show.Snaps) (reply.Snaps []) ∷ []),
+      true,
+    )
+    ∷ (ends_failed (db act.FlushTake reply.Spent ∷ db (act.Put 1) reply.NoSuch ∷ []), false)
+    ∷ (ends_failed (db act.FlushTake reply.Spent ∷ db (act.Build 1) reply.NoSuch ∷ []), false)
     ∷ (ends_failed (db act.FlushTake reply.Spent ∷ put_a ∷ []), false)
     ∷ (ends_failed (db act.FlushTake reply.Spent ∷ db act.FlushTake reply.Nothing ∷ []), false)
     ∷ []
@@ -95,7 +113,11 @@ removals =
     ∷ (taken_in (took 1 ∷ stuck 1 ∷ put_a ∷ took 3 ∷ db act.Reap reply.Nothing ∷ []), 1 ∷ 3 ∷ [])
     ∷ (left_in (took 1 ∷ stuck 1 ∷ put_a ∷ took 3 ∷ db (act.Remove 3) reply.Memory ∷ took 4 ∷ []), 1 ∷ 3 ∷ [])
     ∷ (left_in (took 1 ∷ []), [])
-    ∷ (removed_in (took 1 ∷ stuck 1 ∷ put_a ∷ took 3 ∷ took 4 ∷ db (act.Remove 4) reply.Memory ∷ took 5 ∷ []), 3 ∷ 5 ∷ [])
+    ∷ (
+      removed_in (took 1 ∷ stuck 1 ∷ put_a ∷ took 3 ∷ took 4 ∷ db (act.Remove 4) reply.Memory
+          ∷ took 5 ∷ []),
+      3 ∷ 5 ∷ [],
+    )
     ∷ (removed_in (took 2 ∷ []), 2 ∷ [])
     ∷ (removed_in (stuck 2 ∷ []), [])
     ∷ []
@@ -115,14 +137,29 @@ jobs_reserve =
     (reserved [], [])
     ∷ (reserved (put_a ∷ sealed 1 ∷ []), [])
     ∷ (reserved (put_a ∷ sealed 1 ∷ flush_taken 1 ∷ []), 1 ∷ [])
-    ∷ (reserved_in (opening 1 7) (put_a ∷ sealed 1 ∷ flush_taken 1 ∷ put_flush 1 (table_of_key 7 (codes "a") 1) ∷ []), 7 ∷ [])
+    ∷ (
+      reserved_in (opening 1 7) (put_a ∷ sealed 1 ∷ flush_taken 1
+          ∷ put_flush 1 (table_of_key 7 (codes "a") 1) ∷ []),
+      7 ∷ [],
+    )
     ∷ (reserved (key_flushed 1 (codes "a") 1 ++ compaction_taken ∷ []), 1 ∷ range_with_len 2 64)
-    ∷ (reserved (key_flushed 1 (codes "a") 1 ++ compaction_taken ∷ put_a ∷ sealed 2 ∷ flush_taken 3 ∷ []), 1 ∷ range_with_len 2 64 ++ 66 ∷ [])
+    ∷ (
+      reserved (key_flushed 1 (codes "a") 1 ++ compaction_taken ∷ put_a ∷ sealed 2 ∷ flush_taken 3 ∷ []),
+      1 ∷ range_with_len 2 64 ++ 66 ∷ [],
+    )
     -- one that fails keeps its number, and the next has another
     ∷ (reserved (put_a ∷ sealed 1 ∷ flush_taken 1 ∷ build_fails ∷ flush_taken 2 ∷ []), 1 ∷ 2 ∷ [])
     -- refused ones have none
-    ∷ (reserved (put_a ∷ sealed 1 ∷ db act.FlushTake reply.Memory ∷ db act.FlushTake reply.Spent ∷ flush_taken 1 ∷ db act.FlushTake reply.Nothing ∷ []), 1 ∷ [])
-    ∷ (reserved (db (act.CompactTake Auto) reply.Nothing ∷ db (act.CompactTake Auto) reply.Memory ∷ db (act.CompactTake Auto) reply.Spent ∷ []), [])
+    ∷ (
+      reserved (put_a ∷ sealed 1 ∷ db act.FlushTake reply.Memory ∷ db act.FlushTake reply.Spent
+          ∷ flush_taken 1 ∷ db act.FlushTake reply.Nothing ∷ []),
+      1 ∷ [],
+    )
+    ∷ (
+      reserved (db (act.CompactTake Auto) reply.Nothing ∷ db (act.CompactTake Auto) reply.Memory
+          ∷ db (act.CompactTake Auto) reply.Spent ∷ []),
+      [],
+    )
     ∷ []
 
 abbrev pub opens : List TableOps → Reply → Note
@@ -135,11 +172,23 @@ apart = table_ops (codes "t3") (Set (codes "c") (codes "1") ∷ [])
 abbrev pub loads_reserve : List (List ℕ × List ℕ)
 loads_reserve =
     (reserved (opens (only_b ∷ apart ∷ []) reply.Opening ∷ []), 1 ∷ 2 ∷ [])
-    ∷ (reserved (opens (only_b ∷ apart ∷ []) reply.Opening ∷ opens (only_b ∷ apart ∷ []) reply.Opened ∷ []), 1 ∷ 2 ∷ [])
-    ∷ (reserved (opens (only_a ∷ []) reply.Opening ∷ trying (opens (only_a ∷ []) reply.Fault) (1 ∷ []) ∷ opens (only_a ∷ []) reply.Opening ∷ []), 1 ∷ 2 ∷ [])
+    ∷ (
+      reserved (opens (only_b ∷ apart ∷ []) reply.Opening
+          ∷ opens (only_b ∷ apart ∷ []) reply.Opened ∷ []),
+      1 ∷ 2 ∷ [],
+    )
+    ∷ (
+      reserved (opens (only_a ∷ []) reply.Opening ∷ trying (opens (only_a ∷ []) reply.Fault) (1 ∷ [])
+          ∷ opens (only_a ∷ []) reply.Opening ∷ []),
+      1 ∷ 2 ∷ [],
+    )
     -- without tables, and refused
     ∷ (reserved (excise (codes "l1") (from_to (codes "a") (codes "m")) ∷ []), [])
-    ∷ (reserved (opens [] reply.Nothing ∷ opens (only_a ∷ []) reply.Memory ∷ opens (only_a ∷ []) reply.Spent ∷ opens (only_a ∷ []) reply.TooMany ∷ []), [])
+    ∷ (
+      reserved (opens [] reply.Nothing ∷ opens (only_a ∷ []) reply.Memory ∷ opens (only_a ∷ []) reply.Spent
+          ∷ opens (only_a ∷ []) reply.TooMany ∷ []),
+      [],
+    )
     ∷ (reserved (opens (only_a ∷ []) reply.Opening ∷ opens (only_a ∷ []) reply.NameInUse ∷ []), 1 ∷ [])
     -- the halves of an install have the next numbers, and they aren't reserved
     ∷ (reserved (take 6 two_halves), 1 ∷ [])
@@ -158,7 +207,11 @@ flushes_due =
     ∷ (flush_due (now (put_a ∷ sealed 1 ∷ flush_taken 1 ∷ [])), false)
     ∷ (flush_due (now (put_a ∷ sealed 1 ∷ flush_taken 1 ∷ put_a ∷ sealed 2 ∷ [])), false)
     ∷ (flush_due (now (put_a ∷ sealed 1 ∷ flush_taken 1 ∷ build_fails ∷ [])), true)
-    ∷ (flush_due (now (put_a ∷ sealed 1 ∷ flush_taken 1 ∷ put_a ∷ sealed 2 ∷ put_flush 1 (table_of_key 1 (codes "a") 1) ∷ [])), true)
+    ∷ (
+      flush_due (now (put_a ∷ sealed 1 ∷ flush_taken 1 ∷ put_a ∷ sealed 2
+          ∷ put_flush 1 (table_of_key 1 (codes "a") 1) ∷ [])),
+      true,
+    )
     ∷ (flush_due (now (key_flushed 1 (codes "a") 1)), false)
     -- beside a compaction
     ∷ (flush_due (now (key_flushed 1 (codes "a") 1 ++ compaction_taken ∷ [])), false)
@@ -176,7 +229,8 @@ five_flushed = four_flushed ++ key_flushed 5 (codes "e") 5
 
 -- a compaction of the table of one key, as a job, with its hold
 abbrev pub compacts : List ℕ → List ℕ → ℕ → ℕ → ℕ → Note
-compacts lo hi job hold version = holding (db (compact_l0 (from_to lo hi)) (reply.Job job)) (Hold hold version ∷ [])
+compacts lo hi job hold version =
+    holding (db (compact_l0 (from_to lo hi)) (reply.Job job)) (Hold hold version ∷ [])
 
 abbrev pub three_running : List Note
 three_running =

@@ -1,5 +1,6 @@
 -- Runs of scripts by workers, and how far a client has come in its lines.
 use Rattle.std.specs.Prelude.{ℕ, false, List, [], ◌∷◌, ◌++◌, replicate, None, Some, codes}
+use Rattle.xdb_key.specs.Bounds.{Bounds}
 use Rattle.xdb_key.specs.declared.op.Op.TheVariants.{Del}
 use Rattle.xdb_plain.specs.Workers.{HasCome}
 use Rattle.xdb_plain.specs.declared.act.Act.TheVariants as act
@@ -42,7 +43,8 @@ left_over =
     ∷ no_run (lines (puts_a ∷ [])) flush_taken
     -- a compaction alone
     ∷ no_run (lines (puts_a ∷ []))
-        (flush_taken ++ put_1 ∷ holding (db (compact_l0 (from_to (codes "a") (codes "b"))) (reply.Job 2)) (Hold 1 1 ∷ []) ∷ [])
+    (flush_taken ++ put_1 ∷ holding (db (compact_l0 (from_to (codes "a") (codes "b"))) (reply.Job 2))
+    (Hold 1 1 ∷ []) ∷ [])
     ∷ []
 
 -- a batch of so many operations
@@ -72,7 +74,8 @@ compaction_left =
     run (lines (puts_a ∷ puts_a ∷ puts_a ∷ [])) three_flushed
     ∷ no_run (lines (puts_a ∷ puts_a ∷ puts_a ∷ puts_a ∷ [])) (three_flushed ++ key_flushed 4)
     -- its beginning failed
-    ∷ run (lines (puts_a ∷ puts_a ∷ puts_a ∷ puts_a ∷ [])) (three_flushed ++ key_flushed 4 ++ db (act.CompactTake Auto) reply.Memory ∷ [])
+    ∷ run (lines (puts_a ∷ puts_a ∷ puts_a ∷ puts_a ∷ []))
+    (three_flushed ++ key_flushed 4 ++ db (act.CompactTake Auto) reply.Memory ∷ [])
     ∷ []
 
 abbrev pub took : ℕ → Note
@@ -89,21 +92,26 @@ failed_at_last =
     ∷ run (lines (puts_a ∷ [])) (flush_taken ++ db (act.Build 1) (reply.Damaged 1 0) ∷ [])
     ∷ run (lines (puts_a ∷ [])) (flush_taken ++ db (act.Put 1) reply.Memory ∷ [])
     ∷ run (lines (puts_a ∷ [])) (put_a ∷ db act.Seal (reply.Group 1) ∷ db act.FlushTake reply.Memory ∷ [])
-    ∷ run (lines (puts_a ∷ [])) (put_a ∷ db act.Seal (reply.Group 1) ∷ db (act.CompactTake Auto) reply.Memory ∷ [])
+    ∷ run (lines (puts_a ∷ [])) (put_a ∷ db act.Seal (reply.Group 1)
+    ∷ db (act.CompactTake Auto) reply.Memory ∷ [])
     -- behind it only what no flush and no compaction goes by
-    ∷ run (lines (puts_a ∷ [])) (flush_taken ++ trying (db (act.Build 1) reply.Fault) (1 ∷ []) ∷ took 1 ∷ db (act.Remove 1) reply.Stuck ∷ [])
+    ∷ run (lines (puts_a ∷ [])) (flush_taken ++ trying (db (act.Build 1) reply.Fault) (1 ∷ []) ∷ took 1
+    ∷ db (act.Remove 1) reply.Stuck ∷ [])
     -- a client's note behind it
     ∷ no_run (lines (puts_a ∷ line.c1 (cmd.Shut (codes "k")) ∷ []))
-        (flush_taken ++ db (act.Build 1) reply.Fault ∷ c1 (act.Shut (codes "k")) reply.NoSuch ∷ [])
+    (flush_taken ++ db (act.Build 1) reply.Fault ∷ c1 (act.Shut (codes "k")) reply.NoSuch ∷ [])
     -- a flush behind it
-    ∷ no_run (lines (puts_a ∷ [])) (flush_taken ++ db (act.Build 1) reply.Fault ∷ db act.FlushTake (reply.Job 2) ∷ [])
+    ∷ no_run (lines (puts_a ∷ [])) (flush_taken ++ db (act.Build 1) reply.Fault
+    ∷ db act.FlushTake (reply.Job 2) ∷ [])
     -- nothing failed
     ∷ no_run (lines (puts_a ∷ [])) (flush_taken ++ db act.FlushTake reply.Nothing ∷ [])
     ∷ no_run (lines (puts_a ∷ [])) (flush_taken ++ db (act.CompactTake Auto) reply.Nothing ∷ [])
     -- what failed is a client's, or a removal
-    ∷ no_run (lines (puts_a ∷ puts_a ∷ [])) (flush_taken ++ c1 (put (codes "a") (codes "1")) reply.Memory ∷ [])
+    ∷ no_run (lines (puts_a ∷ puts_a ∷ []))
+    (flush_taken ++ c1 (put (codes "a") (codes "1")) reply.Memory ∷ [])
     ∷ no_run (lines (puts_a ∷ []))
-        (flush_taken ++ trying (db (act.Build 1) reply.Fault) (1 ∷ []) ∷ db act.FlushTake (reply.Job 2) ∷ took 1 ∷ db (act.Remove 1) reply.Memory ∷ [])
+    (flush_taken ++ trying (db (act.Build 1) reply.Fault) (1 ∷ []) ∷ db act.FlushTake (reply.Job 2)
+    ∷ took 1 ∷ db (act.Remove 1) reply.Memory ∷ [])
     ∷ []
 
 -- nothing dead is left
@@ -120,11 +128,12 @@ due_replies =
     ∷ no_run [] (db (act.Work 1) reply.NoSuch ∷ [])
     ∷ no_run (lines (puts_a ∷ [])) (flush_taken ++ db (act.Put 1) reply.NotYet ∷ put_1 ∷ [])
     -- an install may find that the load is opening, and there may be no such job to put
-    ∷ run (lines (line.table only_a ∷ line.c1 (cmd.Load (codes "l1") (codes "t" ∷ []) None) ∷ line.c2 (cmd.Install (codes "l1")) ∷ []))
-        (c1 (act.LoadOpen (codes "l1") (only_a ∷ []) None) reply.Opening
-        ∷ c2 (act.Install (codes "l1")) reply.NotYet
-        ∷ c1 (act.LoadOpen (codes "l1") (only_a ∷ []) None) reply.Opened
-        ∷ [])
+    ∷ run (lines (line.table only_a ∷ line.c1 (cmd.Load (codes "l1") (codes "t" ∷ []) None)
+    ∷ line.c2 (cmd.Install (codes "l1")) ∷ []))
+    (c1 (act.LoadOpen (codes "l1") (only_a ∷ []) None) reply.Opening
+    ∷ c2 (act.Install (codes "l1")) reply.NotYet
+    ∷ c1 (act.LoadOpen (codes "l1") (only_a ∷ []) None) reply.Opened
+    ∷ [])
     ∷ run [] (db (act.Put 1) reply.NoSuch ∷ [])
     -- notes that no worker makes
     ∷ run [] (db act.Seal reply.Nothing ∷ db act.FlushTake reply.Nothing ∷ db act.Reap reply.Nothing ∷ [])
@@ -153,18 +162,20 @@ flush_again job = db act.FlushTake (reply.Job job) ∷ put_flush job (table_of_k
 abbrev pub load_waits : List RunCase
 load_waits =
     run (lines (puts_a ∷ excises ∷ installs ∷ []))
-        (excise_opened ++ build_fails ++ excise_waits ∷ flush_again 2)
+    (excise_opened ++ build_fails ++ excise_waits ∷ flush_again 2)
     ∷ no_run (lines (puts_a ∷ excises ∷ installs ∷ [])) (excise_opened ++ excise_waits ∷ flush_again 1)
     ∷ no_run (lines (puts_a ∷ excises ∷ installs ∷ installs ∷ []))
-        (excise_opened ++ build_fails ++ excise_waits ∷ excise_waits ∷ flush_again 2)
+    (excise_opened ++ build_fails ++ excise_waits ∷ excise_waits ∷ flush_again 2)
     -- in any order, and whatever failed
     ∷ run (lines (puts_a ∷ excises ∷ installs ∷ []))
-        (excise_opened ++ excise_waits ∷ db act.FlushTake (reply.Job 1) ∷ db (act.Build 1) (reply.Damaged 1 0) ∷ flush_again 2)
+    (excise_opened ++ excise_waits ∷ db act.FlushTake (reply.Job 1)
+    ∷ db (act.Build 1) (reply.Damaged 1 0) ∷ flush_again 2)
     ∷ run (lines (puts_a ∷ excises ∷ installs ∷ []))
-        (excise_opened ++ excise_waits ∷ db act.FlushTake reply.Memory ∷ flush_again 1)
+    (excise_opened ++ excise_waits ∷ db act.FlushTake reply.Memory ∷ flush_again 1)
     ∷ run (lines (puts_a ∷ excises ∷ installs ∷ installs ∷ []))
-        (excise_opened ++ excise_waits ∷ excise_waits ∷ db act.FlushTake (reply.Job 1) ∷ trying (db (act.Build 1) reply.Fault) (1 ∷ [])
-        ∷ took 1 ∷ db (act.Remove 1) reply.Stuck ∷ flush_again 2)
+    (excise_opened ++ excise_waits ∷ excise_waits ∷ db act.FlushTake (reply.Job 1)
+    ∷ trying (db (act.Build 1) reply.Fault) (1 ∷ [])
+    ∷ took 1 ∷ db (act.Remove 1) reply.Stuck ∷ flush_again 2)
     ∷ []
 
 abbrev pub snaps : Said
@@ -177,16 +188,18 @@ pinned = put_a ∷ c1 (act.Snap (codes "s1") (from_to (codes "a") (codes "m") �
 abbrev pub await_waits : List RunCase
 await_waits =
     no_run (lines (puts_a ∷ snaps ∷ line.c1 (cmd.Status (codes "s1") status_form.Await) ∷ []))
-        (pinned ++ c1 (act.Status (codes "s1") status_form.Await) (reply.Pinned 1) ∷ [])
+    (pinned ++ c1 (act.Status (codes "s1") status_form.Await) (reply.Pinned 1) ∷ [])
     ∷ run (lines (puts_a ∷ snaps ∷ line.c1 (cmd.Status (codes "s1") status_form.Await) ∷ puts_a ∷ []))
-        (pinned ++ c1 (act.Status (codes "s1") status_form.Await) (reply.Pinned 1) ∷ c1 (put (codes "a") (codes "1")) reply.Memory ∷ [])
+    (pinned ++ c1 (act.Status (codes "s1") status_form.Await) (reply.Pinned 1)
+    ∷ c1 (put (codes "a") (codes "1")) reply.Memory ∷ [])
     -- one who asks for its state doesn't wait
     ∷ run (lines (puts_a ∷ snaps ∷ line.c1 (cmd.Status (codes "s1") status_form.Status) ∷ []))
-        (pinned ++ c1 (act.Status (codes "s1") status_form.Status) (reply.Pinned 1) ∷ [])
+    (pinned ++ c1 (act.Status (codes "s1") status_form.Status) (reply.Pinned 1) ∷ [])
     -- a snapshot that isn't pinned
     ∷ run (lines (snaps ∷ line.c1 (cmd.Status (codes "s1") status_form.Await) ∷ []))
-        (holding (c1 (act.Snap (codes "s1") (from_to (codes "a") (codes "m") ∷ [])) reply.FileOnly) (Hold 1 0 ∷ [])
-        ∷ c1 (act.Status (codes "s1") status_form.Await) reply.FileOnly ∷ [])
+    (holding (c1 (act.Snap (codes "s1") (from_to (codes "a") (codes "m") ∷ [])) reply.FileOnly)
+    (Hold 1 0 ∷ [])
+    ∷ c1 (act.Status (codes "s1") status_form.Await) reply.FileOnly ∷ [])
     ∷ []
 
 abbrev pub puts_b : Said
@@ -236,7 +249,8 @@ reads_between =
     ∷ no_run (lines (gets_a ∷ puts_b ∷ puts_c ∷ [])) (asked_a ∷ put_c ∷ put_b ∷ answered_a ∷ [])
     ∷ no_run (lines (gets_a ∷ puts_c ∷ [])) (asked_a ∷ put_c ∷ [])
     -- answered to another client
-    ∷ no_run (lines (gets_a ∷ [])) (asked_a ∷ holding (c2 (act.Ask 1 (get (codes "a")) false) (reply.Answered Absent)) (Release 1 ∷ []) ∷ [])
+    ∷ no_run (lines (gets_a ∷ [])) (asked_a
+    ∷ holding (c2 (act.Ask 1 (get (codes "a")) false) (reply.Answered Absent)) (Release 1 ∷ []) ∷ [])
     ∷ []
 
 abbrev pub loads : Said → List Said
@@ -248,14 +262,17 @@ load_opened =
     ∷ c1 (act.LoadOpen (codes "l1") (only_a ∷ []) None) reply.Opened
     ∷ []
 
+abbrev pub m_to_z : Bounds
+m_to_z = from_to (codes "m") (codes "z")
+
 -- a table is defined for every client
 abbrev pub defined_for_all : List RunCase
 defined_for_all =
     run (lines (loads (line.c2 (cmd.Load (codes "l2") (codes "t" ∷ []) None))))
-        (load_opened ++ c2 (act.LoadOpen (codes "l2") (only_a ∷ []) None) (reply.Fenced (codes "l1")) ∷ [])
+    (load_opened ++ c2 (act.LoadOpen (codes "l2") (only_a ∷ []) None) (reply.Fenced (codes "l1")) ∷ [])
     -- the second client's load without it
-    ∷ no_run (lines (loads (line.c2 (cmd.Load (codes "l2") (codes "t" ∷ []) (Some (from_to (codes "m") (codes "z")))))))
-        (load_opened ++ c2 (act.LoadOpen (codes "l2") [] (Some (from_to (codes "m") (codes "z")))) reply.Opened ∷ [])
+    ∷ no_run (lines (loads (line.c2 (cmd.Load (codes "l2") (codes "t" ∷ []) (Some m_to_z)))))
+    (load_opened ++ c2 (act.LoadOpen (codes "l2") [] (Some m_to_z)) reply.Opened ∷ [])
     ∷ []
 
 -- lines of a client, how many are done, what there is of the next one's block, and the notes by the client
@@ -336,11 +353,15 @@ under_way_wrong =
     ∷ not_come (place four_lines 1 (put_b ∷ []) two_done)
     ∷ not_come (place four_lines 0 (asked_a ∷ answered_a ∷ []) (asked_a ∷ answered_a ∷ []))
     -- a refusal
-    ∷ not_come (place four_lines 0 (c1 (act.Ask 0 (get (codes "a")) false) reply.Memory ∷ []) (c1 (act.Ask 0 (get (codes "a")) false) reply.Memory ∷ []))
-    ∷ not_come (place (excises ∷ []) 0 (excise (codes "l1") (from_to (codes "a") (codes "m")) ∷ []) (excise (codes "l1") (from_to (codes "a") (codes "m")) ∷ []))
+    ∷ not_come (place four_lines 0 (c1 (act.Ask 0 (get (codes "a")) false) reply.Memory ∷ [])
+    (c1 (act.Ask 0 (get (codes "a")) false) reply.Memory ∷ []))
+    ∷ not_come (place (excises ∷ []) 0 (excise (codes "l1") (from_to (codes "a") (codes "m")) ∷ [])
+    (excise (codes "l1") (from_to (codes "a") (codes "m")) ∷ []))
     -- a load of a table that isn't defined, or is defined below
-    ∷ not_come (place (line.c1 (cmd.Load (codes "l1") (codes "t" ∷ []) None) ∷ []) 0 (opening_l1 ∷ []) (opening_l1 ∷ []))
-    ∷ not_come (place (line.c1 (cmd.Load (codes "l1") (codes "t" ∷ []) None) ∷ line.table only_a ∷ []) 0 (opening_l1 ∷ []) (opening_l1 ∷ []))
+    ∷ not_come (place (line.c1 (cmd.Load (codes "l1") (codes "t" ∷ []) None) ∷ []) 0 (opening_l1 ∷ [])
+    (opening_l1 ∷ []))
+    ∷ not_come (place (line.c1 (cmd.Load (codes "l1") (codes "t" ∷ []) None)
+    ∷ line.table only_a ∷ []) 0 (opening_l1 ∷ []) (opening_l1 ∷ []))
     -- a question in parts
     ∷ not_come (place (line.c1 (line.ask_in_parts (get (codes "a"))) ∷ []) 0 (asked_a ∷ []) (asked_a ∷ []))
     -- not among the notes, or not the last of them

@@ -1,6 +1,10 @@
 //! Runs of scripts on one thread.
+ghost use Rattle.std.specs.Prelude.{◌∷◌, [], ◌++◌};
+ghost use Rattle.xdb_plain.specs.Legal.{IsRight, TellHolds};
+ghost use Rattle.xdb_plain.specs.Runs.{IsRunOf};
+ghost use Rattle.xdb_plain.specs.State.{opening};
 ghost use Rattle.xdb_rows.specs.Judged.{AreRunCases};
-ghost use Rattle.xdb_rows.specs.Tables.Runs.{puts, builds, whole_flushes, whole_compactions, reaps, reaps_of_nothing, drains, reads, settles, works, openings, named_tables, lines_in_order, clients_notes, owners_notes, every_command};
+ghost use Rattle.xdb_rows.specs.Tables.Runs.{puts, builds, whole_flushes, whole_compactions, reaps, reaps_of_nothing, drains, reads, settles, works, openings, named_tables, lines_in_order, clients_notes, owners_notes, every_command, from_7_lines, from_7, took};
 
 /// A put waits until its job is built.
 pub fn puts()
@@ -80,4 +84,12 @@ pub fn owners_notes()
 /// Each command can have its note.
 pub fn every_command()
     ensures { AreRunCases every_command }
+{}
+
+/// A run may begin with other numbers.
+pub fn other_first_numbers()
+    ensures right { IsRight 1 7 (from_7 ++ took 7 ∷ []) }
+    ensures holds { TellHolds (opening 1 7) (from_7 ++ took 7 ∷ []) }
+    ensures run { IsRunOf 1 7 from_7_lines (from_7 ++ took 7 ∷ []) }
+    ensures no_run { IsRunOf 1 7 from_7_lines from_7 → ⊥ }
 {}
