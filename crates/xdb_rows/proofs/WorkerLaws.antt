@@ -46,42 +46,44 @@ abbrev pub Blocks : List Line → List Note → ℕ → Type 0
 Blocks lines notes client = AreClientBlocks [] (lines_by (Client client) lines) (notes_by (Client client) notes)
 
 -- a run by workers, client by client, and quiet or not
-pub record IsClosedThreads (lines : List Line) (notes : List Note) : Type 0 where
+pub record IsClosedThreads (first_seq first_file : ℕ) (lines : List Line) (notes : List Note) : Type 0 where
   pub clients : DownFrom 16 (Blocks lines notes)
-  pub clean : dead (after_all (opening 1 1) notes) ≡ []
+  pub clean : dead (after_all (opening first_seq first_file) notes) ≡ []
   pub due_replies : IsTrue (list_all is_due_reply notes)
-  pub quiet : QuietUnless (ends_failed notes) (after_all (opening 1 1) notes)
+  pub quiet : QuietUnless (ends_failed notes) (after_all (opening first_seq first_file) notes)
   pub few_waits : length (filter (λ note. is_wait note.act note.reply) notes) ≤ length (filter (λ note. is_failure note.reply) notes)
 
-to-threads : (lines : List Line) (notes : List Note) → IsClosedThreads lines notes → IsThreadsOf 1 1 lines notes
-to-threads lines notes h = record {
+pub to-threads : (first_seq first_file : ℕ) (lines : List Line) (notes : List Note)
+    → IsClosedThreads first_seq first_file lines notes → IsThreadsOf first_seq first_file lines notes
+to-threads first_seq first_file lines notes h = record {
   clients = each-down 16 (Blocks lines notes) h.clients;
   clean = h.clean;
   due_replies = h.due_replies;
-  quiet = to-quiet (ends_failed notes) (after_all (opening 1 1) notes) h.quiet;
+  quiet = to-quiet (ends_failed notes) (after_all (opening first_seq first_file) notes) h.quiet;
   few_waits = h.few_waits;
 }
 
-from-threads : (lines : List Line) (notes : List Note) → IsThreadsOf 1 1 lines notes → IsClosedThreads lines notes
-from-threads lines notes h = record {
+pub from-threads : (first_seq first_file : ℕ) (lines : List Line) (notes : List Note)
+    → IsThreadsOf first_seq first_file lines notes → IsClosedThreads first_seq first_file lines notes
+from-threads first_seq first_file lines notes h = record {
   clients = down-each 16 (Blocks lines notes) h.clients;
   clean = h.clean;
   due_replies = h.due_replies;
-  quiet = from-quiet (ends_failed notes) (after_all (opening 1 1) notes) h.quiet;
+  quiet = from-quiet (ends_failed notes) (after_all (opening first_seq first_file) notes) h.quiet;
   few_waits = h.few_waits;
 }
 
 abbrev pub IsClosedCase : RunCase → Type 0
-IsClosedCase (run lines notes) = IsHistoryOf lines notes × IsClosedThreads lines notes
-IsClosedCase (no_run lines notes) = IsHistoryOf lines notes × (IsClosedThreads lines notes → ⊥)
+IsClosedCase (run lines notes) = IsHistoryOf lines notes × IsClosedThreads 1 1 lines notes
+IsClosedCase (no_run lines notes) = IsHistoryOf lines notes × (IsClosedThreads 1 1 lines notes → ⊥)
 
 abbrev pub AreClosedCases : List RunCase → Type 0
 AreClosedCases [] = Unit {0}
 AreClosedCases (c ∷ cs) = IsClosedCase c × AreClosedCases cs
 
 threads-case : (c : RunCase) → IsClosedCase c → IsThreadsCase c
-threads-case (run lines notes) h = (h.0, to-threads lines notes h.1)
-threads-case (no_run lines notes) h = (h.0, λ t. h.1 (from-threads lines notes t))
+threads-case (run lines notes) h = (h.0, to-threads 1 1 lines notes h.1)
+threads-case (no_run lines notes) h = (h.0, λ t. h.1 (from-threads 1 1 lines notes t))
 
 pub threads-cases : (cs : List RunCase) → AreClosedCases cs → AreThreadsCases cs
 threads-cases [] h = tt

@@ -275,6 +275,13 @@ defined_for_all =
     (load_opened ++ c2 (act.LoadOpen (codes "l2") [] (Some m_to_z)) reply.Opened ∷ [])
     ∷ []
 
+-- a run from another first file number on, whose last compaction failed to begin
+abbrev pub ends_in_vain : Note
+ends_in_vain = db (act.CompactTake Auto) reply.Memory
+
+abbrev pub puts_lines : List Line
+puts_lines = lines (puts_a ∷ [])
+
 -- lines of a client, how many are done, what there is of the next one's block, and the notes by the client
 pub record Place : Type 0 where
   pub lines : List Line

@@ -1,6 +1,11 @@
 //! Runs of scripts by workers.
+ghost use Rattle.std.specs.Prelude.{◌∷◌, [], ◌++◌};
+ghost use Rattle.xdb_plain.specs.Legal.{IsRight, TellHolds};
+ghost use Rattle.xdb_plain.specs.State.{opening};
+ghost use Rattle.xdb_plain.specs.Workers.{IsThreadsOf};
 ghost use Rattle.xdb_rows.specs.Judged.{AreThreadsCases};
-ghost use Rattle.xdb_rows.specs.Tables.Workers.{left_over, active_group, compaction_left, failed_at_last, dead_left, due_replies, load_waits, await_waits, clients_in_order, reads_between, defined_for_all, AreCome, ways, miscounted, under_way_wrong};
+ghost use Rattle.xdb_rows.specs.Tables.Runs.{from_7};
+ghost use Rattle.xdb_rows.specs.Tables.Workers.{left_over, active_group, compaction_left, failed_at_last, dead_left, due_replies, load_waits, await_waits, clients_in_order, reads_between, defined_for_all, took, ends_in_vain, puts_lines, AreCome, ways, miscounted, under_way_wrong};
 
 /// No sealed group and no job is left.
 pub fn left_over()
@@ -55,6 +60,14 @@ pub fn reads_between()
 /// A table is defined for every client.
 pub fn defined_for_all()
     ensures { AreThreadsCases defined_for_all }
+{}
+
+/// A run may begin with other numbers.
+pub fn other_first_numbers()
+    ensures right { IsRight 1 7 (from_7 ++ took 7 ∷ ends_in_vain ∷ []) }
+    ensures holds { TellHolds (opening 1 7) (from_7 ++ took 7 ∷ ends_in_vain ∷ []) }
+    ensures run { IsThreadsOf 1 7 puts_lines (from_7 ++ took 7 ∷ ends_in_vain ∷ []) }
+    ensures no_run { IsThreadsOf 1 7 puts_lines (from_7 ++ ends_in_vain ∷ []) → ⊥ }
 {}
 
 /// How far a client may have come.
