@@ -1,2 +1,5 @@
 pub mod Answers
 pub mod Orders
+pub mod Runs
+pub mod Workers
+pub mod Told

@@ -1,3 +1,6 @@
 //! Tables of cases that tell definitions apart: each notices a definition that is changed in one place.
 pub mod answers;
 pub mod orders;
+pub mod runs;
+pub mod told;
+pub mod workers;

@@ -1,0 +1,7 @@
+use Rattle.std.proofs.Common.{rules}
+use Rattle.xdb_rows.proofs.WorkerLaws.{threads-cases}
+use Rattle.xdb_rows.specs.Tables.Workers.{compaction_left}
+use Rattle.xdb_rows.proofs.tables.workers.compaction_left.Goals as goal
+
+pub returns : goal.returns
+returns c = threads-cases compaction_left (search rules)
