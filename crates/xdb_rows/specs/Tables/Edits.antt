@@ -1,7 +1,7 @@
 -- What a flush, a compaction and a load may change in the tables, and how often a file is counted.
 use Rattle.std.specs.Prelude.{ℕ, true, false, List, [], ◌∷◌, ◌++◌, take, map, None, Some, codes}
 use Rattle.std.specs.List.{range_with_len}
-use Rattle.xdb_key.specs.Bounds.{Bounds, bounds, successor}
+use Rattle.xdb_key.specs.Bounds.{Bounds, successor}
 use Rattle.xdb_key.specs.declared.op.Op.TheVariants.{Set, DelSpan}
 use Rattle.xdb_meta.specs.Table.{Table}
 use Rattle.xdb_edit.specs.Changes.{changes}
@@ -233,6 +233,8 @@ places =
     case (deep ++ load (codes "l2") (only (codes "a") ∷ []) None) (
     step (comes_to (codes "l2") 6 (loaded_key 2 (codes "a") 2))
     ∷ no_step (comes_to (codes "l2") 5 (loaded_key 2 (codes "a") 2))
+    -- where there is no span there are no halves
+    ∷ no_step (install (codes "l2") (changes [] (2 ∷ []) ((6, loaded_key 2 (codes "a") 2) ∷ (6, half_of b_to_z 3 (from_upto (codes "b") (codes "b"))) ∷ [])))
     ∷ [])
     -- just above it
     ∷ case (deep ++ load (codes "l2") (only (codes "c") ∷ []) None) (
@@ -357,6 +359,7 @@ outputs =
     ∷ step (outputs_put [] [])
     -- the first of its numbers, each once, with a new file each
     ∷ no_step (outputs_put (2 ∷ 4 ∷ []) (output_a 2 ∷ output_d 4 ∷ []))
+    ∷ no_step (outputs_put (2 ∷ 3 ∷ []) (output_a 2 ∷ output_d 4 ∷ []))
     ∷ no_step (outputs_put (2 ∷ []) (output_a 2 ∷ output_d 3 ∷ []))
     ∷ no_step (outputs_put (2 ∷ 3 ∷ 4 ∷ []) (output_a 2 ∷ output_d 3 ∷ []))
     -- within the hull

@@ -1,8 +1,12 @@
 -- Who takes a hold, of which version, and who lets it go.
 use Rattle.std.specs.Prelude.{ℕ, true, false, List, [], ◌∷◌, ◌++◌, take, None, Some, codes}
 use Rattle.xdb_edit.specs.Changes.{Changes, changes}
+use Rattle.xdb_edit.specs.Versions.{no_tables}
 use Rattle.xdb_plain.specs.declared.act.Act.{Act}
-use Rattle.xdb_plain.specs.declared.act.Act.TheVariants.{Seal, FlushTake, Put, Build, Work, LoadOpen, LoadKept, Install, Snap, Drop, Cursor, Shut, Ask, Settle}
+use Rattle.xdb_plain.specs.declared.act.Act.TheVariants.{Seal, FlushTake, Put, Build, Work, LoadOpen, LoadKept, Install, Snap, Drop, Status, Cursor, Shut, Ask, Settle, Reap, Remove, Show}
+use Rattle.xdb_plain.specs.declared.act.By.TheVariants.{Client}
+use Rattle.xdb_plain.specs.declared.act.ShowWhat.TheVariants as show
+use Rattle.xdb_plain.specs.declared.act.StatusForm.TheVariants as status_form
 use Rattle.xdb_plain.specs.declared.answer.Answer.TheVariants.{Value}
 use Rattle.xdb_plain.specs.declared.note.HoldNote.{HoldNote}
 use Rattle.xdb_plain.specs.declared.note.HoldNote.TheVariants.{Hold, Release}
@@ -12,16 +16,16 @@ use Rattle.xdb_plain.specs.declared.question.Step.TheVariants.{First}
 use Rattle.xdb_plain.specs.declared.reply.Reply.{Reply}
 use Rattle.xdb_plain.specs.declared.reply.Reply.TheVariants as reply
 use Rattle.xdb_rows.specs.Judged.{Case, case, step, no_step, wrong_holds}
-use Rattle.xdb_rows.specs.Notes.{c1, c2, db, holding, changing, trying, from_to, from_upto, half_of, loaded_table, put, get, get_at, ask_held, ask_answered, let_go, table_of_key, put_flush, flushed, install, compact_l0}
+use Rattle.xdb_rows.specs.Notes.{note, c1, c2, db, holding, changing, trying, from_to, from_upto, half_of, loaded_table, put, get, get_at, ask_held, ask_answered, let_go, table_of_key, put_flush, flushed, install, compact_l0}
 use Rattle.xdb_rows.specs.Reads.{stored_run, question_in_parts}
 use Rattle.xdb_rows.specs.Flushes.{change_between_take_and_put}
 use Rattle.xdb_rows.specs.Snapshots.{snapshot_refused, cursor_over_excise}
 use Rattle.xdb_rows.specs.Loads.{only_a, only_b}
-use Rattle.xdb_rows.specs.Excises.{cancelled_compaction, a_to_d}
+use Rattle.xdb_rows.specs.Excises.{cancelled_compaction, a_to_d, whole_table_reaped}
 
 -- the note lets the hold 1 go
 abbrev pub and_release : Note → Note
-and_release note = holding note (Release 1 ∷ [])
+and_release n = holding n (Release 1 ∷ [])
 
 abbrev pub compact : Act
 compact = compact_l0 (from_to (codes "a") (codes "z"))
@@ -99,6 +103,7 @@ cancelled_jobs =
     ∷ wrong_holds (db (Build 2) reply.Fault)
     ∷ step (db (Put 2) reply.NotYet)
     ∷ wrong_holds (and_release (db (Put 2) reply.NotYet))
+    ∷ no_step (db (Put 2) reply.Memory)
     ∷ [])
     ∷ []
 
@@ -242,6 +247,10 @@ numbers_of_holds =
     ∷ wrong_holds (holding (c1 (Ask 1 (get (codes "b")) false) (reply.Asked 1)) (Hold 2 2 ∷ Hold 3 2 ∷ []))
     ∷ wrong_holds (holding (c1 (Ask 1 (get (codes "b")) false) (reply.Asked 1)) (Release 1 ∷ Hold 2 2 ∷ []))
     ∷ wrong_holds cursor_now
+    -- any client may look at a snapshot, and drop it
+    ∷ step (holding (c2 (Ask 1 (get_at (codes "b") (codes "s1")) false) (reply.Asked 1)) (Hold 2 1 ∷ []))
+    ∷ step (and_release (c2 (Drop (codes "s1")) reply.Dropped))
+    ∷ wrong_holds (c2 (Drop (codes "s1")) reply.Dropped)
     -- none where nothing is begun
     ∷ step (snap (codes "s1") reply.NameInUse)
     ∷ wrong_holds (holding (snap (codes "s1") reply.NameInUse) (Hold 2 2 ∷ []))
@@ -251,6 +260,7 @@ numbers_of_holds =
     -- a cursor lets go where it is shut, and not where it is busy
     ∷ case (take 7 cursor_over_excise) (
     step (and_release (c1 (Shut (codes "k")) reply.Shut))
+    ∷ step (and_release (c2 (Shut (codes "k")) reply.Shut))
     ∷ wrong_holds (c1 (Shut (codes "k")) reply.Shut)
     ∷ [])
     ∷ case (take 8 cursor_over_excise) (
@@ -273,6 +283,10 @@ two_pinned =
 abbrev pub turning_flush : List HoldNote → Note
 turning_flush holds = holding (put_flush 1 (table_of_key 1 (codes "b") 1)) holds
 
+-- a compaction whose outputs are none
+abbrev pub nothing_left : Note
+nothing_left = changing (db (Put 2) reply.Installed) (changes ((0, 1) ∷ []) [] [])
+
 abbrev pub turning_snapshots : List Case
 turning_snapshots =
     -- each that turns holds the version that the flush leads to, under a number of its own
@@ -284,6 +298,12 @@ turning_snapshots =
     ∷ wrong_holds (turning_flush (Hold 7 1 ∷ Hold 9 1 ∷ []))
     ∷ wrong_holds (turning_flush (Hold 9 1 ∷ Hold 3 1 ∷ []))
     ∷ wrong_holds (turning_flush (Hold 7 1 ∷ Hold 3 0 ∷ []))
+    ∷ [])
+    -- the put of a compaction turns none
+    ∷ case (take 5 cancelled_compaction ++ c1 (put (codes "b") (codes "3")) reply.Done ∷ snap (codes "s1") (reply.Pinned 2) ∷ db Seal (reply.Group 2) ∷ []) (
+    step (holding nothing_left (Release 1 ∷ []))
+    ∷ wrong_holds (holding nothing_left (Release 1 ∷ Hold 2 2 ∷ []))
+    ∷ wrong_holds nothing_left
     ∷ [])
     -- in the order in which they were made
     ∷ case (two_pinned ++ turning_flush (Hold 7 1 ∷ Hold 3 1 ∷ []) ∷ []) (
@@ -407,4 +427,37 @@ opening_or_open =
     ∷ no_step (open_l1 reply.Opening)
     ∷ step (c1 (Install (codes "l1")) reply.NoSuch)
     ∷ [])
+    ∷ []
+
+-- the owner's acts aren't a client's, and the other way round
+abbrev pub makers : List Case
+makers =
+    case [] (
+    step (db Seal reply.Nothing)
+    ∷ no_step (c1 Seal reply.Nothing)
+    ∷ no_step (c1 FlushTake reply.Nothing)
+    ∷ no_step (c1 compact reply.Nothing)
+    ∷ no_step (c1 (Put 1) reply.NoSuch)
+    ∷ no_step (c1 (Build 1) reply.NoSuch)
+    ∷ no_step (c1 (Work 1) reply.NoSuch)
+    ∷ no_step (c1 Reap reply.Nothing)
+    ∷ no_step (c1 (Show show.Levels) (reply.Levels no_tables))
+    ∷ step (c1 (Settle 1) reply.NoSuch)
+    ∷ no_step (db (Settle 1) reply.NoSuch)
+    ∷ no_step (db (LoadOpen (codes "l1") [] None) reply.Nothing)
+    ∷ no_step (db (LoadKept (codes "l1")) reply.NoSuch)
+    ∷ no_step (db (Install (codes "l1")) reply.NoSuch)
+    ∷ no_step (holding (db (Snap (codes "s1") (from_to (codes "a") (codes "m") ∷ [])) reply.FileOnly) (Hold 1 0 ∷ []))
+    ∷ no_step (db (Drop (codes "s1")) reply.NoSuch)
+    ∷ no_step (db (Status (codes "s1") status_form.Status) reply.NoSuch)
+    ∷ no_step (holding (db (Cursor (codes "k") (from_to (codes "a") (codes "z")) None) reply.CursorOn) (Hold 1 0 ∷ []))
+    ∷ no_step (db (Shut (codes "k")) reply.NoSuch)
+    ∷ no_step (holding (db (Ask 1 (get (codes "a")) false) (reply.Asked 1)) (Hold 1 0 ∷ []))
+    -- clients are numbered from 1 to 16
+    ∷ step (note (Client 16) (Settle 1) reply.NoSuch)
+    ∷ no_step (note (Client 17) (Settle 1) reply.NoSuch)
+    ∷ no_step (note (Client 0) (Settle 1) reply.NoSuch)
+    ∷ [])
+    ∷ case (take 6 whole_table_reaped ++ db Reap (reply.Took 1) ∷ []) (
+    step (db (Remove 1) reply.Stuck) ∷ no_step (c1 (Remove 1) reply.Stuck) ∷ [])
     ∷ []

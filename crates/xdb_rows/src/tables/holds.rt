@@ -1,6 +1,6 @@
 //! Holds of versions, and what ends what began.
 ghost use Rattle.xdb_rows.specs.Judged.{AreCases};
-ghost use Rattle.xdb_rows.specs.Tables.Holds.{takes, failed_jobs, cancelled_jobs, failed_in_parts, failed_in_one, answers_taken, held_versions, numbers_of_holds, turning_snapshots, pinned_snapshots, excised_snapshots, openings, opening_or_open};
+ghost use Rattle.xdb_rows.specs.Tables.Holds.{takes, failed_jobs, cancelled_jobs, failed_in_parts, failed_in_one, answers_taken, held_versions, numbers_of_holds, turning_snapshots, pinned_snapshots, excised_snapshots, openings, opening_or_open, makers};
 
 /// A compaction takes a hold, and a flush none.
 pub fn takes()
@@ -65,4 +65,9 @@ pub fn openings()
 /// A load is installed once it is open.
 pub fn opening_or_open()
     ensures { AreCases opening_or_open }
+{}
+
+/// Who makes which step.
+pub fn makers()
+    ensures { AreCases makers }
 {}
