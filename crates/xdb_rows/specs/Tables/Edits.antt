@@ -8,15 +8,16 @@ use Rattle.xdb_edit.specs.Changes.{changes}
 use Rattle.xdb_plain.specs.Tables.{TableOps, table_ops}
 use Rattle.xdb_plain.specs.declared.act.Act.TheVariants.{Seal, FlushTake, CompactTake, Put, LoadOpen, Cursor, Shut, Show}
 use Rattle.xdb_plain.specs.declared.act.ShowWhat.TheVariants as show
+use Rattle.xdb_plain.specs.declared.act.Which.{Which}
 use Rattle.xdb_plain.specs.declared.act.Which.TheVariants.{At}
 use Rattle.xdb_plain.specs.declared.note.HoldNote.TheVariants.{Hold, Release}
 use Rattle.xdb_plain.specs.declared.note.Note.{Note}
 use Rattle.xdb_plain.specs.declared.reply.Reply.TheVariants as reply
 use Rattle.xdb_rows.specs.Judged.{Case, case, case_from, step, no_step}
-use Rattle.xdb_rows.specs.Notes.{c1, db, holding, changing, from_to, from_upto, file_table, loaded_table, half_of, put, batch, let_go, table_of_key, put_flush, flushed, excise, load, install, levels_0, levels_0_6, compact_l0}
+use Rattle.xdb_rows.specs.Notes.{c1, db, holding, changing, from_to, from_upto, file_table, loaded_table, half_of, put, batch, let_go, table_of_key, put_flush, flushed, excise, load, install, levels_0, levels_0_6}
 use Rattle.xdb_rows.specs.Flushes.{change_between_take_and_put, compaction_to_nothing}
 use Rattle.xdb_rows.specs.Loads.{a_to_c}
-use Rattle.xdb_rows.specs.Excises.{two_halves, left_of_five, right_of_five, whole_table_reaped, cancelled_compaction, a_to_d, excise_beside_hull, b_to_z, a_to_b}
+use Rattle.xdb_rows.specs.Excises.{a_to_e, two_halves, left_of_five, right_of_five, whole_table_reaped, cancelled_compaction, a_to_d, excise_beside_hull, b_to_z, a_to_b}
 
 abbrev pub wide : Table
 wide = file_table 2 (from_upto (codes "a") (codes "e")) 1 2 91
@@ -100,13 +101,17 @@ half_crossed = take 6 two_halves ++ excise (codes "l2") (from_to (codes "da") (c
 abbrev pub cut_half : Table → Note
 cut_half part = install (codes "l2") (changes ((0, 3) ∷ []) [] ((0, part) ∷ []))
 
+-- a table of L0 and one of L6 are cut, with these numbers
+abbrev pub cut_levels : ℕ → ℕ → Note
+cut_levels above below =
+    install (codes "l2") (changes ((0, 2) ∷ (6, 1) ∷ []) [] ((0, half_of (a_to_b 2) above (from_upto (codes "a") (codes "a")))
+    ∷ (6, half_of b_to_z below (from_upto (codes "x") (codes "z"))) ∷ []))
+
 abbrev pub halves_of_levels : List Case
 halves_of_levels =
     -- the tables go level by level
     case (take 7 excise_beside_hull ++ excise (codes "l2") (from_to (codes "b") (codes "c")) ∷ []) (
-    step (install (codes "l2") (changes ((0, 2) ∷ (6, 1) ∷ []) [] ((0, half_of (a_to_b 2) 3 (from_upto (codes "a") (codes "a"))) ∷ (6, half_of b_to_z 4 (from_upto (codes "x") (codes "z"))) ∷ [])))
-    ∷ no_step (install (codes "l2") (changes ((0, 2) ∷ (6, 1) ∷ []) [] ((0, half_of (a_to_b 2) 4 (from_upto (codes "a") (codes "a"))) ∷ (6, half_of b_to_z 3 (from_upto (codes "x") (codes "z"))) ∷ [])))
-    ∷ [])
+    step (cut_levels 3 4) ∷ no_step (cut_levels 4 3) ∷ [])
     -- a half of a half stands on the same file, has half of the half's size and the next number
     ∷ case half_crossed (
     step (cut_half (half_of right_of_five 4 (from_upto (codes "d") (codes "d"))))
@@ -137,7 +142,7 @@ edges_of_the_span =
     ∷ [])
     -- one that begins at the last key does
     ∷ case (five_and (codes "e") (codes "z")) (
-    step (install (codes "l1") (changes ((0, 1) ∷ []) [] ((0, half_of (file_table 1 (from_upto (codes "a") (codes "e")) 1 5 120) 2 (from_to (codes "a") (codes "e"))) ∷ [])))
+    step (install (codes "l1") (changes ((0, 1) ∷ []) [] ((0, half_of a_to_e 2 (from_to (codes "a") (codes "e"))) ∷ [])))
     ∷ no_step (install (codes "l1") (changes [] [] []))
     -- what goes is named by its level
     ∷ no_step (install (codes "l1") (changes ((1, 1) ∷ []) [] []))
@@ -149,6 +154,10 @@ opened_with tables = load (codes "l1") tables None
 
 abbrev pub comes_over : Bounds → Note
 comes_over range = install (codes "l1") (changes [] (1 ∷ []) ((6, loaded_table 1 range 1 90) ∷ []))
+
+abbrev pub span_and_points : TableOps
+span_and_points =
+    table_ops (codes "t") (DelSpan (from_to (codes "b") (codes "c")) ∷ Set (codes "a") (codes "1") ∷ Set (codes "c") (codes "3") ∷ [])
 
 abbrev pub loaded_bounds : List Case
 loaded_bounds =
@@ -170,7 +179,7 @@ loaded_bounds =
     step (comes_over (from_to (codes "a") (codes "c")))
     ∷ no_step (comes_over (from_upto (codes "b") (codes "b")))
     ∷ [])
-    ∷ case (opened_with (table_ops (codes "t") (DelSpan (from_to (codes "b") (codes "c")) ∷ Set (codes "a") (codes "1") ∷ Set (codes "c") (codes "3") ∷ []) ∷ [])) (
+    ∷ case (opened_with (span_and_points ∷ [])) (
     step (comes_over (from_upto (codes "a") (codes "c")))
     ∷ no_step (comes_over (from_to (codes "b") (codes "c")))
     ∷ no_step (comes_over (from_to (codes "a") (codes "c")))
@@ -227,6 +236,12 @@ deep = take 3 excise_beside_hull
 abbrev pub comes_to : List ℕ → ℕ → Table → Note
 comes_to name level t = install name (changes [] (t.num ∷ []) ((level, t) ∷ []))
 
+abbrev pub left_of_deep : Table
+left_of_deep = half_of b_to_z 3 (from_upto (codes "b") (codes "b"))
+
+abbrev pub cuts_deep : List (ℕ × Table) → Note
+cuts_deep added = install (codes "l2") (changes ((6, 1) ∷ []) (2 ∷ []) added)
+
 abbrev pub places : List Case
 places =
     -- beside it
@@ -234,7 +249,7 @@ places =
     step (comes_to (codes "l2") 6 (loaded_key 2 (codes "a") 2))
     ∷ no_step (comes_to (codes "l2") 5 (loaded_key 2 (codes "a") 2))
     -- where there is no span there are no halves
-    ∷ no_step (install (codes "l2") (changes [] (2 ∷ []) ((6, loaded_key 2 (codes "a") 2) ∷ (6, half_of b_to_z 3 (from_upto (codes "b") (codes "b"))) ∷ [])))
+    ∷ no_step (install (codes "l2") (changes [] (2 ∷ []) ((6, loaded_key 2 (codes "a") 2) ∷ (6, left_of_deep) ∷ [])))
     ∷ [])
     -- just above it
     ∷ case (deep ++ load (codes "l2") (only (codes "c") ∷ []) None) (
@@ -245,15 +260,15 @@ places =
     ∷ [])
     -- where the span made room
     ∷ case (deep ++ load (codes "l2") (only (codes "x") ∷ []) (Some (from_to (codes "x") (codes "y")))) (
-    step (install (codes "l2") (changes ((6, 1) ∷ []) (2 ∷ []) ((6, loaded_key 2 (codes "x") 2) ∷ (6, half_of b_to_z 3 (from_upto (codes "b") (codes "b"))) ∷ [])))
-    ∷ no_step (install (codes "l2") (changes ((6, 1) ∷ []) (2 ∷ []) ((5, loaded_key 2 (codes "x") 2) ∷ (6, half_of b_to_z 3 (from_upto (codes "b") (codes "b"))) ∷ [])))
+    step (cuts_deep ((6, loaded_key 2 (codes "x") 2) ∷ (6, left_of_deep) ∷ []))
+    ∷ no_step (cuts_deep ((5, loaded_key 2 (codes "x") 2) ∷ (6, left_of_deep) ∷ []))
     -- the records go by level and number
-    ∷ no_step (install (codes "l2") (changes ((6, 1) ∷ []) (2 ∷ []) ((6, half_of b_to_z 3 (from_upto (codes "b") (codes "b"))) ∷ (6, loaded_key 2 (codes "x") 2) ∷ [])))
+    ∷ no_step (cuts_deep ((6, left_of_deep) ∷ (6, loaded_key 2 (codes "x") 2) ∷ []))
     ∷ [])
     -- above a half that the span leaves
     ∷ case (deep ++ load (codes "l2") (only (codes "b") ∷ []) (Some (from_to (codes "x") (codes "y")))) (
-    step (install (codes "l2") (changes ((6, 1) ∷ []) (2 ∷ []) ((5, loaded_key 2 (codes "b") 2) ∷ (6, half_of b_to_z 3 (from_upto (codes "b") (codes "b"))) ∷ [])))
-    ∷ no_step (install (codes "l2") (changes ((6, 1) ∷ []) (2 ∷ []) ((6, loaded_key 2 (codes "b") 2) ∷ (6, half_of b_to_z 3 (from_upto (codes "b") (codes "b"))) ∷ [])))
+    step (cuts_deep ((5, loaded_key 2 (codes "b") 2) ∷ (6, left_of_deep) ∷ []))
+    ∷ no_step (cuts_deep ((6, loaded_key 2 (codes "b") 2) ∷ (6, left_of_deep) ∷ []))
     ∷ [])
     ∷ []
 
@@ -390,21 +405,25 @@ in_l0_and_l1 =
     ∷ c1 (put (codes "b") (codes "3")) reply.Done
     ∷ flushed 2 3 (table_of_key 66 (codes "b") 3)
 
+abbrev pub second_take : Which → Note
+second_take which = holding (db (CompactTake which) (reply.Job 4)) (Hold 1 3 ∷ [])
+
 abbrev pub second_put : List (ℕ × ℕ) → ℕ → Note
 second_put removed level =
-    holding (changing (db (Put 4) reply.Installed) (changes removed (67 ∷ []) ((level, file_table 67 (from_upto (codes "a") (codes "d")) 1 3 90) ∷ []))) (Release 1 ∷ [])
+    holding (changing (db (Put 4) reply.Installed)
+    (changes removed (67 ∷ []) ((level, file_table 67 (from_upto (codes "a") (codes "d")) 1 3 90) ∷ []))) (Release 1 ∷ [])
 
 abbrev pub outputs_of_levels : List Case
 outputs_of_levels =
     -- the tables of the next level that it meets are inputs too
-    case (in_l0_and_l1 ++ holding (db (compact_l0 (from_to (codes "b") (codes "c"))) (reply.Job 4)) (Hold 1 3 ∷ []) ∷ []) (
+    case (in_l0_and_l1 ++ second_take (At 0 (from_to (codes "b") (codes "c"))) ∷ []) (
     step (second_put ((0, 66) ∷ (1, 2) ∷ []) 1)
     ∷ no_step (second_put ((0, 66) ∷ []) 1)
     ∷ no_step (second_put ((1, 2) ∷ []) 1)
     ∷ no_step (second_put ((0, 66) ∷ (1, 2) ∷ []) 2)
     ∷ [])
     -- a compaction of L1 writes to L2, and leaves L0 alone
-    ∷ case (in_l0_and_l1 ++ holding (db (CompactTake (At 1 (from_to (codes "b") (codes "c")))) (reply.Job 4)) (Hold 1 3 ∷ []) ∷ []) (
+    ∷ case (in_l0_and_l1 ++ second_take (At 1 (from_to (codes "b") (codes "c"))) ∷ []) (
     step (second_put ((1, 2) ∷ []) 2)
     ∷ no_step (second_put ((1, 2) ∷ []) 1)
     ∷ no_step (second_put ((0, 66) ∷ (1, 2) ∷ []) 2)
@@ -445,10 +464,13 @@ counts_of_versions =
     step (counted ((1, 1) ∷ (2, 1) ∷ [])) ∷ no_step (counted ((1, 2) ∷ (2, 1) ∷ [])) ∷ [])
     ∷ []
 
+abbrev pub halves_come : Note
+halves_come = install (codes "l1") (changes ((0, 1) ∷ []) [] ((0, left_of_five) ∷ (0, right_of_five) ∷ []))
+
 abbrev pub counts_of_halves : List Case
 counts_of_halves =
     -- two halves in one version, and their table in the one before
-    case (take 4 two_halves ++ cursor (codes "k") 1 1 ∷ excise (codes "l1") (from_to (codes "b") (codes "d")) ∷ install (codes "l1") (changes ((0, 1) ∷ []) [] ((0, left_of_five) ∷ (0, right_of_five) ∷ [])) ∷ []) (
+    case (take 4 two_halves ++ cursor (codes "k") 1 1 ∷ excise (codes "l1") (from_to (codes "b") (codes "d")) ∷ halves_come ∷ []) (
     step (counted ((1, 3) ∷ [])) ∷ no_step (counted ((1, 2) ∷ [])) ∷ [])
     -- an install that changes no table leads to a version of its own
     ∷ case (take 6 held_twice ++ excise (codes "l1") (from_to (codes "x") (codes "y")) ∷ install (codes "l1") (changes [] [] []) ∷ []) (
