@@ -55,6 +55,10 @@ pub record AreWrongHolds (p : Plain) (note : Note) : Type 0 where
 abbrev pub MayNotStand : List Note → Note → Type 0
 MayNotStand history note = IsNoStep (after_all (opening 1 1) history) note
 
+-- it is no step, whatever else is wrong with it
+abbrev pub StandsNot : List Note → Note → Type 0
+StandsNot history note = MayStand (after_all (opening 1 1) history) note → ⊥
+
 abbrev pub TellsWrongHolds : List Note → Note → Type 0
 TellsWrongHolds history note = AreWrongHolds (after_all (opening 1 1) history) note
 

@@ -1,4 +1,6 @@
 pub mod Answers
+pub mod Edits
+pub mod Holds
 pub mod Orders
 pub mod Runs
 pub mod Workers

@@ -1,10 +1,11 @@
 //! Edits and tried numbers that may not stand.
-ghost use Rattle.std.specs.Prelude.{◌∷◌, [], take, false, codes};
+ghost use Rattle.std.specs.Prelude.{◌∷◌, [], take, codes};
 ghost use Rattle.xdb_key.specs.Bounds.{successor};
 ghost use Rattle.xdb_edit.specs.Changes.{changes};
-ghost use Rattle.xdb_plain.specs.declared.act.Act.TheVariants.{Seal, Put, Install, Ask};
+ghost use Rattle.xdb_plain.specs.declared.act.Act.TheVariants.{Seal, Put, Install};
+ghost use Rattle.xdb_plain.specs.declared.note.HoldNote.TheVariants.{Release};
 ghost use Rattle.xdb_plain.specs.declared.reply.Reply.TheVariants as reply;
-ghost use Rattle.xdb_rows.specs.Notes.{c1, db, changing, trying, from_to, from_upto, file_table, loaded_table, half_of, get, table_of_key, put_flush, install};
+ghost use Rattle.xdb_rows.specs.Notes.{c1, db, holding, changing, trying, ask_answered, from_to, from_upto, file_table, loaded_table, half_of, get, table_of_key, put_flush, install};
 ghost use Rattle.xdb_rows.specs.Reads.{stored_run};
 ghost use Rattle.xdb_rows.specs.Flushes.{change_between_take_and_put, compaction_to_nothing};
 ghost use Rattle.xdb_rows.specs.Loads.{load_waits};
@@ -98,7 +99,7 @@ pub fn loaded_table_without_its_number()
 
 /// Each table of a load comes in.
 pub fn loaded_table_left_out()
-    ensures { MayNotStand (take 10 tombstone_clipped) (install (codes "l1") (changes ((0, 1) ∷ (0, 2) ∷ []) [] ((0, half_b) ∷ (0, half_a_m) ∷ (0, half_n_z) ∷ []))) }
+    ensures { MayNotStand (take 10 tombstone_clipped) (install (codes "l1") (changes ((0, 1) ∷ (0, 2) ∷ []) (3 ∷ []) ((0, half_b) ∷ (0, half_a_m) ∷ (0, half_n_z) ∷ []))) }
 {}
 
 /// A flush has the file number that its job has.
@@ -113,40 +114,40 @@ pub fn flush_into_another_level()
 
 /// A flush adds one table.
 pub fn flush_of_nothing()
-    ensures { MayNotStand (take 6 change_between_take_and_put) (changing (db (Put 1) reply.Installed) (changes [] [] [])) }
+    ensures { MayNotStand (take 6 change_between_take_and_put) (changing (db (Put 1) reply.Installed) (changes [] (1 ∷ []) [])) }
 {}
 
 /// A compaction removes all its inputs.
 pub fn input_left_in()
-    ensures { MayNotStand (take 11 compaction_to_nothing) (changing (db (Put 3) reply.Installed) (changes ((0, 1) ∷ []) [] [])) }
+    ensures { MayNotStand (take 11 compaction_to_nothing) (holding (changing (db (Put 3) reply.Installed) (changes ((0, 1) ∷ []) [] [])) (Release 1 ∷ [])) }
 {}
 
 /// What it adds lies in its hull.
 pub fn output_outside_the_hull()
-    ensures { MayNotStand (take 10 excise_beside_hull) (changing (db (Put 2) reply.Installed) (changes ((0, 2) ∷ []) (3 ∷ []) ((1, file_table 3 (from_upto (codes "a") (codes "c")) 2 3 90) ∷ []))) }
+    ensures { MayNotStand (take 10 excise_beside_hull) (holding (changing (db (Put 2) reply.Installed) (changes ((0, 2) ∷ []) (3 ∷ []) ((1, file_table 3 (from_upto (codes "a") (codes "c")) 2 3 90) ∷ []))) (Release 1 ∷ [])) }
 {}
 
 /// What it adds stands in the next level.
 pub fn output_in_the_same_level()
-    ensures { MayNotStand (take 10 excise_beside_hull) (changing (db (Put 2) reply.Installed) (changes ((0, 2) ∷ []) (3 ∷ []) ((0, a_to_b 3) ∷ []))) }
+    ensures { MayNotStand (take 10 excise_beside_hull) (holding (changing (db (Put 2) reply.Installed) (changes ((0, 2) ∷ []) (3 ∷ []) ((0, a_to_b 3) ∷ []))) (Release 1 ∷ [])) }
 {}
 
 /// It uses its numbers from the first on.
 pub fn output_under_a_later_number()
-    ensures { MayNotStand (take 10 excise_beside_hull) (changing (db (Put 2) reply.Installed) (changes ((0, 2) ∷ []) (4 ∷ []) ((1, a_to_b 4) ∷ []))) }
+    ensures { MayNotStand (take 10 excise_beside_hull) (holding (changing (db (Put 2) reply.Installed) (changes ((0, 2) ∷ []) (4 ∷ []) ((1, a_to_b 4) ∷ []))) (Release 1 ∷ [])) }
 {}
 
 /// What a job tried is among the numbers that it had.
 pub fn tried_beyond_its_numbers()
-    ensures { MayNotStand (take 7 cancelled_compaction) (trying (db (Put 2) (reply.Cancelled (codes "l1"))) (66 ∷ [])) }
+    ensures { MayNotStand (take 7 cancelled_compaction) (holding (trying (db (Put 2) (reply.Cancelled (codes "l1"))) (66 ∷ [])) (Release 1 ∷ [])) }
 {}
 
 /// Tried numbers rise.
 pub fn tried_falling()
-    ensures { MayNotStand (take 7 cancelled_compaction) (trying (db (Put 2) (reply.Cancelled (codes "l1"))) (3 ∷ 2 ∷ [])) }
+    ensures { MayNotStand (take 7 cancelled_compaction) (holding (trying (db (Put 2) (reply.Cancelled (codes "l1"))) (3 ∷ 2 ∷ [])) (Release 1 ∷ [])) }
 {}
 
 /// Nothing else tries a number.
 pub fn tried_in_a_read()
-    ensures { MayNotStand (take 2 stored_run) (trying (c1 (Ask 1 (get (codes "a")) false) reply.Fault) (1 ∷ [])) }
+    ensures { MayNotStand (take 2 stored_run) (trying (ask_answered 1 (get (codes "a")) 1 reply.Fault) (1 ∷ [])) }
 {}

@@ -64,5 +64,5 @@ pub fn hold_under_a_number_in_use()
 
 /// The answer is that of the asking.
 pub fn answer_at_settle()
-    ensures { AnswersWrong (take 4 question_in_parts) (c1 (Settle 1) (reply.Answered (Value (codes "2")))) }
+    ensures { AnswersWrong (take 4 question_in_parts) (let_go (Settle 1) (reply.Answered (Value (codes "2"))) 1) }
 {}

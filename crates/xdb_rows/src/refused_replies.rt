@@ -3,19 +3,20 @@ ghost use Rattle.std.specs.Prelude.{◌∷◌, [], take, false, None, codes};
 ghost use Rattle.xdb_edit.specs.Changes.{changes};
 ghost use Rattle.xdb_plain.specs.declared.act.Act.TheVariants.{Seal, FlushTake, Put, LoadOpen, Install, Snap, Status, Ask, Settle, Reap, Remove, Show};
 ghost use Rattle.xdb_plain.specs.declared.act.By.TheVariants.{Client};
-ghost use Rattle.xdb_plain.specs.declared.answer.Answer.TheVariants.{Value, Absent};
+ghost use Rattle.xdb_plain.specs.declared.answer.Answer.TheVariants.{Value};
+ghost use Rattle.xdb_plain.specs.declared.note.HoldNote.TheVariants.{Hold, Release};
 ghost use Rattle.xdb_plain.specs.declared.question.Question.TheVariants.{Move};
 ghost use Rattle.xdb_plain.specs.declared.question.Step.TheVariants.{Next};
 ghost use Rattle.xdb_plain.specs.declared.act.ShowWhat.TheVariants as show;
 ghost use Rattle.xdb_plain.specs.declared.act.StatusForm.TheVariants as status_form;
 ghost use Rattle.xdb_plain.specs.declared.reply.Reply.TheVariants as reply;
-ghost use Rattle.xdb_rows.specs.Notes.{note, c1, c2, db, changing, trying, from_to, from_upto, file_table, put, ask_refused, get, get_at, install, levels_0};
+ghost use Rattle.xdb_rows.specs.Notes.{note, c1, c2, db, holding, changing, trying, ask_held, ask_answered, from_to, from_upto, file_table, put, ask_refused, get, get_at, install, levels_0};
 ghost use Rattle.xdb_rows.specs.Reads.{stored_run, question_in_parts};
 ghost use Rattle.xdb_rows.specs.Flushes.{change_between_take_and_put, compaction_to_nothing};
 ghost use Rattle.xdb_rows.specs.Snapshots.{file_only_survives_excise, snapshot_refused, too_many_snapshots, pinned_and_turned, cursor_over_excise};
 ghost use Rattle.xdb_rows.specs.Loads.{fence_and_retry, a_and_c, only_b, a_to_c, load_waits, only_a, load_fails};
 ghost use Rattle.xdb_rows.specs.Excises.{a_to_e, two_halves, whole_table_reaped, cancelled_compaction, excise_beside_hull};
-ghost use Rattle.xdb_rows.specs.Judged.{MayNotStand};
+ghost use Rattle.xdb_rows.specs.Judged.{MayNotStand, StandsNot};
 
 /// An operation that touches an open load's fence is not done.
 pub fn commit_inside_a_fence()
@@ -79,17 +80,17 @@ pub fn waits_for_nothing()
 
 /// A compaction whose hull met the span of a load isn't installed.
 pub fn installs_though_cancelled()
-    ensures { MayNotStand (take 7 cancelled_compaction) (changing (db (Put 2) reply.Installed) (changes ((0, 1) ∷ []) (2 ∷ []) ((1, file_table 2 (from_upto (codes "a") (codes "d")) 1 2 90) ∷ []))) }
+    ensures { MayNotStand (take 7 cancelled_compaction) (holding (changing (db (Put 2) reply.Installed) (changes ((0, 1) ∷ []) (2 ∷ []) ((1, file_table 2 (from_upto (codes "a") (codes "d")) 1 2 90) ∷ []))) (Release 1 ∷ [])) }
 {}
 
 /// Cancelled names the load that did it.
 pub fn cancelled_by_another()
-    ensures { MayNotStand (take 7 cancelled_compaction) (trying (db (Put 2) (reply.Cancelled (codes "l2"))) (2 ∷ [])) }
+    ensures { MayNotStand (take 7 cancelled_compaction) (holding (trying (db (Put 2) (reply.Cancelled (codes "l2"))) (2 ∷ [])) (Release 1 ∷ [])) }
 {}
 
 /// A span beside the hull cancels nothing.
 pub fn cancelled_beside_the_hull()
-    ensures { MayNotStand (take 10 excise_beside_hull) (db (Put 2) (reply.Cancelled (codes "l2"))) }
+    ensures { MayNotStand (take 10 excise_beside_hull) (holding (db (Put 2) (reply.Cancelled (codes "l2"))) (Release 1 ∷ [])) }
 {}
 
 /// A snapshot is pinned while a group touches its ranges below its mark.
@@ -119,12 +120,12 @@ pub fn excised_though_file_only()
 
 /// No read goes through a snapshot that was excised.
 pub fn read_though_excised()
-    ensures { MayNotStand (take 9 snapshot_refused) (c1 (Ask 1 (get_at (codes "q") (codes "s1")) false) (reply.Asked 1)) }
+    ensures { MayNotStand (take 9 snapshot_refused) (ask_held 1 (get_at (codes "q") (codes "s1")) false (Hold 1 2)) }
 {}
 
 /// No read goes beside the ranges of a snapshot.
 pub fn read_outside()
-    ensures { MayNotStand (take 5 file_only_survives_excise) (c1 (Ask 1 (get_at (codes "z") (codes "s1")) false) (reply.Asked 1)) }
+    ensures { MayNotStand (take 5 file_only_survives_excise) (ask_held 1 (get_at (codes "z") (codes "s1")) false (Hold 2 1)) }
 {}
 
 /// With 63 snapshots there is room for one more.
@@ -134,17 +135,17 @@ pub fn too_many_at_63()
 
 /// With 64 there isn't.
 pub fn one_more_than_64()
-    ensures { MayNotStand (take 64 (too_many_snapshots 64)) (c1 (Snap (codes "last") (from_to (codes "a") (codes "m") ∷ [])) reply.FileOnly) }
+    ensures { MayNotStand (take 64 (too_many_snapshots 64)) (holding (c1 (Snap (codes "last") (from_to (codes "a") (codes "m") ∷ [])) reply.FileOnly) (Hold 65 0 ∷ [])) }
 {}
 
 /// A cursor answers one question at a time.
 pub fn question_on_a_busy_cursor()
-    ensures { MayNotStand (take 8 cursor_over_excise) (c1 (Ask 2 (Move (codes "k") Next) false) (reply.Asked 2)) }
+    ensures { MayNotStand (take 8 cursor_over_excise) (ask_held 2 (Move (codes "k") Next) false (Hold 3 1)) }
 {}
 
 /// Questions are numbered in order.
 pub fn question_under_another_number()
-    ensures { MayNotStand (take 1 stored_run) (c1 (Ask 2 (get (codes "a")) false) (reply.Asked 2)) }
+    ensures { MayNotStand (take 1 stored_run) (ask_held 2 (get (codes "a")) false (Hold 1 0)) }
 {}
 
 /// A refused question has the number 0.
@@ -152,14 +153,19 @@ pub fn refused_ask_with_a_number()
     ensures { MayNotStand [] (c1 (Ask 1 (get_at (codes "a") (codes "s9")) false) reply.NoSuch) }
 {}
 
-/// A question has one answer.
+/// A question has one answer. No second one is that which is kept, so this alone is judged: that it stands nowhere.
 pub fn settled_twice()
-    ensures { MayNotStand (take 5 question_in_parts) (c1 (Settle 1) (reply.Answered (Value (codes "1")))) }
+    ensures { StandsNot (take 5 question_in_parts) (c1 (Settle 1) (reply.Answered (Value (codes "1")))) }
+{}
+
+/// It isn't waited for once it has its answer.
+pub fn waits_after_its_answer()
+    ensures { MayNotStand (take 5 question_in_parts) (c1 (Settle 1) reply.NotYet) }
 {}
 
 /// An answer belongs to the question that was asked.
 pub fn answer_to_another_question()
-    ensures { MayNotStand (take 2 stored_run) (c1 (Ask 1 (get (codes "b")) false) (reply.Answered Absent)) }
+    ensures { MayNotStand (take 2 stored_run) (ask_answered 1 (get (codes "b")) 1 (reply.Answered (Value (codes "1")))) }
 {}
 
 /// The first pair is named in its order.

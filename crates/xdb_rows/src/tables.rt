@@ -1,5 +1,7 @@
 //! Tables of cases that tell definitions apart: each notices a definition that is changed in one place.
 pub mod answers;
+pub mod edits;
+pub mod holds;
 pub mod orders;
 pub mod runs;
 pub mod told;
