@@ -1,2 +1,5 @@
 pub mod Small
 pub mod Orders
+pub mod Fences
+pub mod Numbers
+pub mod Limits

@@ -1,2 +1,5 @@
 //! Tables of cases that tell definitions apart: each notices a definition that is changed in one place.
+pub mod fences;
+pub mod limits;
+pub mod numbers;
 pub mod orders;
