@@ -3,3 +3,5 @@ pub mod Orders
 pub mod Fences
 pub mod Numbers
 pub mod Limits
+pub mod Snapshots
+pub mod Compactions

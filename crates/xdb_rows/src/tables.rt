@@ -1,5 +1,7 @@
 //! Tables of cases that tell definitions apart: each notices a definition that is changed in one place.
+pub mod compactions;
 pub mod fences;
 pub mod limits;
 pub mod numbers;
 pub mod orders;
+pub mod snapshots;
