@@ -5,3 +5,4 @@ pub mod Numbers
 pub mod Limits
 pub mod Snapshots
 pub mod Compactions
+pub mod Plans

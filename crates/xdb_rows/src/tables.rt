@@ -4,4 +4,5 @@ pub mod fences;
 pub mod limits;
 pub mod numbers;
 pub mod orders;
+pub mod plans;
 pub mod snapshots;

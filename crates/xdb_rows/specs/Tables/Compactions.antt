@@ -210,14 +210,16 @@ table_a_to_z = file_table 1 (from_upto (codes "a") (codes "z")) 1 2 90
 abbrev pub span_and_c : List Note
 span_and_c = load (codes "l2") (table_with (codes "t") (codes "c" ∷ []) ∷ []) (Some (from_to (codes "x") (codes "y")))
 
--- the table is cut: its left half ends at a key, and c goes to a level
-abbrev pub cut_and_c : ℕ → Table → ℕ → List ℕ → ℕ → Note
-cut_and_c level t num last at =
-    install (codes "l2") (changes ((level, 1) ∷ []) (num ∷ []) (
-    (level, half_of t (num + 1) (from_upto (codes "a") last))
-    ∷ (level, half_of t (num + 2) (from_upto (codes "z") (codes "z")))
-    ∷ (at, loaded_key num (codes "c") 3)
-    ∷ []))
+-- the table is cut: its left half ends at a key, and the loaded table is written before the halves or behind them
+abbrev pub cut_l0_and_c : List ℕ → List (ℕ × Table) → List (ℕ × Table) → Note
+cut_l0_and_c last before behind =
+    install (codes "l2") (changes ((0, 1) ∷ []) (2 ∷ []) (before
+    ++ (0, half_of table_a_to_z 3 (from_upto (codes "a") last))
+    ∷ (0, half_of table_a_to_z 4 (from_upto (codes "z") (codes "z")))
+    ∷ behind))
+
+abbrev pub c_at : ℕ → List (ℕ × Table)
+c_at level = (level, loaded_key 2 (codes "c") 3) ∷ []
 
 -- a table in L6 from a to z, and later a load of c over it
 abbrev pub l6_a_to_z : Table
@@ -228,28 +230,29 @@ a_to_z_in_l6 =
     load (codes "l1") (table_with (codes "t") (codes "a" ∷ codes "z" ∷ []) ∷ []) None
     ++ install (codes "l1") (changes [] (1 ∷ []) ((6, l6_a_to_z) ∷ [])) ∷ []
 
-abbrev pub cut_l6_and_c : List ℕ → List (ℕ × Table) → List (ℕ × Table) → Note
-cut_l6_and_c last above beside =
-    install (codes "l2") (changes ((6, 1) ∷ []) (2 ∷ []) (above
-    ++ (beside ++ (6, half_of l6_a_to_z 3 (from_upto (codes "a") last))
-    ∷ (6, half_of l6_a_to_z 4 (from_upto (codes "z") (codes "z"))) ∷ [])))
+abbrev pub cut_l6_and_c : List ℕ → ℕ → Note
+cut_l6_and_c last level =
+    install (codes "l2") (changes ((6, 1) ∷ []) (2 ∷ []) ((level, loaded_key 2 (codes "c") 2)
+    ∷ (6, half_of l6_a_to_z 3 (from_upto (codes "a") last))
+    ∷ (6, half_of l6_a_to_z 4 (from_upto (codes "z") (codes "z")))
+    ∷ []))
 
 -- a loaded table has its place in what the halves leave
 abbrev pub placed_above_halves : List Case
 placed_above_halves =
     -- a half that holds its key keeps it in L0
     case (stored (codes "a" ∷ codes "z" ∷ []) ∷ flushed 1 1 table_a_to_z ++ span_and_c) (
-    step (cut_and_c 0 table_a_to_z 2 (codes "c") 0)
-    ∷ no_step (cut_and_c 0 table_a_to_z 2 (codes "c") 6)
+    step (cut_l0_and_c (codes "c") (c_at 0) [])
+    ∷ no_step (cut_l0_and_c (codes "c") [] (c_at 6))
     -- a half that ends before it doesn't, though the table did
-    ∷ step (cut_and_c 0 table_a_to_z 2 (codes "b") 6)
-    ∷ no_step (cut_and_c 0 table_a_to_z 2 (codes "b") 0)
+    ∷ step (cut_l0_and_c (codes "b") [] (c_at 6))
+    ∷ no_step (cut_l0_and_c (codes "b") (c_at 0) [])
     ∷ [])
     -- and above a half of L6
     ∷ case (a_to_z_in_l6 ++ span_and_c) (
-    step (cut_l6_and_c (codes "c") ((5, loaded_key 2 (codes "c") 2) ∷ []) [])
-    ∷ no_step (cut_l6_and_c (codes "c") [] ((6, loaded_key 2 (codes "c") 2) ∷ []))
-    ∷ step (cut_l6_and_c (codes "b") [] ((6, loaded_key 2 (codes "c") 2) ∷ []))
-    ∷ no_step (cut_l6_and_c (codes "b") ((5, loaded_key 2 (codes "c") 2) ∷ []) [])
+    step (cut_l6_and_c (codes "c") 5)
+    ∷ no_step (cut_l6_and_c (codes "c") 6)
+    ∷ step (cut_l6_and_c (codes "b") 6)
+    ∷ no_step (cut_l6_and_c (codes "b") 5)
     ∷ [])
     ∷ []
