@@ -6,3 +6,4 @@ pub mod Limits
 pub mod Snapshots
 pub mod Compactions
 pub mod Plans
+pub mod Makers

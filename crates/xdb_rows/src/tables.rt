@@ -2,6 +2,7 @@
 pub mod compactions;
 pub mod fences;
 pub mod limits;
+pub mod makers;
 pub mod numbers;
 pub mod orders;
 pub mod plans;

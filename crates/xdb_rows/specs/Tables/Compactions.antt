@@ -73,7 +73,11 @@ blocked_by_cancelled =
     case cancelled (
     step (db (compact_l0 (one (codes "a"))) reply.Nothing) ∷ no_step (compact (one (codes "a")) 3 2) ∷ [])
     ∷ case (cancelled ++ put_cancelled 2 (codes "l1") ∷ []) (
-    step (compact (one (codes "a")) 3 2) ∷ no_step (db (compact_l0 (one (codes "a"))) reply.Nothing) ∷ [])
+    step (compact (one (codes "a")) 3 2)
+    ∷ no_step (db (compact_l0 (one (codes "a"))) reply.Nothing)
+    ∷ step (db (Put 2) reply.NoSuch)
+    ∷ no_step (db (Put 2) reply.NotYet)
+    ∷ [])
     ∷ case (cancelled ++ load (codes "l2") (table_with (codes "t") (codes "b" ∷ []) ∷ []) None) (
     step (install_b 0) ∷ no_step (install_b 6) ∷ [])
     ∷ case (cancelled ++ load (codes "l2") (table_with (codes "t") (codes "b" ∷ []) ∷ []) None ++ put_cancelled 2 (codes "l1") ∷ []) (
@@ -113,6 +117,7 @@ cancelled_by_spans =
     case (running ++ excise (codes "l1") (from_to (successor (codes "d")) (codes "z")) ∷ install_plain (codes "l1")
     ∷ excise (codes "l2") (from_to (codes "A") (codes "a")) ∷ install_plain (codes "l2") ∷ []) (
     step put_running
+    ∷ step (db (Put 2) reply.Memory)
     ∷ no_step (put_cancelled 2 (codes "l1"))
     ∷ no_step (put_cancelled 2 (codes "l2"))
     ∷ [])

@@ -4,11 +4,11 @@ use Rattle.xdb_key.specs.Bounds.{successor}
 use Rattle.xdb_key.specs.declared.op.Op.TheVariants.{DelSpan}
 use Rattle.xdb_edit.specs.Changes.{changes}
 use Rattle.xdb_plain.specs.Tables.{TableOps, table_ops}
-use Rattle.xdb_plain.specs.declared.act.Act.TheVariants.{Seal, FlushTake, LoadKept, Install}
+use Rattle.xdb_plain.specs.declared.act.Act.TheVariants.{Seal, FlushTake, Build, LoadKept, Install}
 use Rattle.xdb_plain.specs.declared.note.Note.{Note}
 use Rattle.xdb_plain.specs.declared.reply.Reply.TheVariants as reply
 use Rattle.xdb_rows.specs.Judged.{Case, case, step, no_step}
-use Rattle.xdb_rows.specs.Notes.{c1, c2, db, trying, from_to, from_upto, file_table, put, del, delspan, excise, install, load, flushed}
+use Rattle.xdb_rows.specs.Notes.{c1, c2, db, trying, from_to, from_upto, file_table, table_of_key, put, put_flush, del, delspan, excise, install, load, flushed}
 use Rattle.xdb_rows.specs.Tables.Small.{a_to_c, a_to_m, c_to_e, m_to_t, a_to_z, sets, stored, table_with, opens, opens_span, loaded_key}
 
 -- l2 is opened before l1
@@ -141,6 +141,7 @@ overlaps_in_order =
     -- the pair whose first is first, though another pair ends before it
     step (c1 (opens (codes "l") (table_with (codes "t") (codes "a" ∷ codes "c" ∷ []) ∷ table_with (codes "u") (codes "m" ∷ []) ∷ table_with (codes "v") (codes "m" ∷ []) ∷ table_with (codes "w") (codes "b" ∷ []) ∷ []) None) (reply.Overlap (codes "t") (codes "w")))
     ∷ no_step (c1 (opens (codes "l") (table_with (codes "t") (codes "a" ∷ codes "c" ∷ []) ∷ table_with (codes "u") (codes "m" ∷ []) ∷ table_with (codes "v") (codes "m" ∷ []) ∷ table_with (codes "w") (codes "b" ∷ []) ∷ []) None) (reply.Overlap (codes "u") (codes "v")))
+    ∷ no_step (c1 (opens (codes "l") (table_with (codes "t") (codes "a" ∷ codes "c" ∷ []) ∷ table_with (codes "u") (codes "b" ∷ []) ∷ []) None) (reply.Overlap (codes "v") (codes "u")))
     -- of those the pair whose second is first
     ∷ step (c1 (opens (codes "l") (table_with (codes "t") (codes "a" ∷ codes "c" ∷ []) ∷ table_with (codes "u") (codes "c" ∷ []) ∷ table_with (codes "v") (codes "a" ∷ []) ∷ []) None) (reply.Overlap (codes "t") (codes "u")))
     ∷ no_step (c1 (opens (codes "l") (table_with (codes "t") (codes "a" ∷ codes "c" ∷ []) ∷ table_with (codes "u") (codes "c" ∷ []) ∷ table_with (codes "v") (codes "a" ∷ []) ∷ []) None) (reply.Overlap (codes "t") (codes "v")))
@@ -206,6 +207,19 @@ waits_for_groups =
     -- a group waits no longer once it is flushed
     ∷ case (stored (codes "b" ∷ []) ∷ flushed 1 1 (file_table 1 (from_upto (codes "b") (codes "b")) 1 1 85) ++ excise (codes "l1") (from_to (codes "A") (codes "z")) ∷ []) (
     step (install (codes "l1") (changes ((0, 1) ∷ []) [] [])) ∷ no_step (c1 (Install (codes "l1")) (reply.Waits 1)) ∷ [])
+    -- the oldest is flushed, and the others wait on
+    ∷ case (stored (codes "b" ∷ []) ∷ db Seal (reply.Group 1) ∷ stored (codes "b" ∷ []) ∷ excise (codes "l1") a_to_m
+    ∷ db FlushTake (reply.Job 1) ∷ put_flush 1 (table_of_key 1 (codes "b") 1) ∷ []) (
+    step (c1 (Install (codes "l1")) (reply.Waits 2)) ∷ no_step (install (codes "l1") (changes ((0, 1) ∷ []) [] [])) ∷ [])
+    ∷ case (stored (codes "b" ∷ []) ∷ db Seal (reply.Group 1) ∷ stored (codes "x" ∷ []) ∷ db Seal (reply.Group 2) ∷ excise (codes "l1") a_to_m
+    ∷ db FlushTake (reply.Job 1) ∷ put_flush 1 (table_of_key 1 (codes "b") 1) ∷ []) (
+    step (install (codes "l1") (changes ((0, 1) ∷ []) [] []))
+    ∷ no_step (c1 (Install (codes "l1")) (reply.Waits 1))
+    ∷ no_step (c1 (Install (codes "l1")) (reply.Waits 2))
+    ∷ [])
+    -- one whose flush failed does so too
+    ∷ case (stored (codes "b" ∷ []) ∷ excise (codes "l1") a_to_m ∷ db FlushTake (reply.Job 1) ∷ db (Build 1) reply.Fault ∷ []) (
+    step (c1 (Install (codes "l1")) (reply.Waits 1)) ∷ no_step (install (codes "l1") (changes [] [] [])) ∷ [])
     ∷ []
 
 -- how long a name is in use
@@ -243,6 +257,21 @@ names_of_loads =
     ∷ no_step (c1 (opens_span (codes "l1") m_to_t) reply.NameInUse)
     ∷ step (c1 (Install (codes "l1")) reply.NoSuch)
     ∷ step (c1 (LoadKept (codes "l1")) reply.NoSuch)
+    ∷ [])
+    -- one load comes on, and not another
+    ∷ case (c1 (opens (codes "l1") b_to_d_and_p None) reply.Opening ∷ c1 (opens (codes "l2") (table_with (codes "v") (codes "x" ∷ []) ∷ []) None) reply.Opening
+    ∷ c1 (opens (codes "l1") b_to_d_and_p None) reply.Opened ∷ []) (
+    step (c1 (Install (codes "l2")) reply.NotYet)
+    ∷ no_step (install (codes "l2") (changes [] (3 ∷ []) ((6, loaded_key 3 (codes "x") 1) ∷ [])))
+    ∷ step (c1 (LoadKept (codes "l2")) reply.NotYet)
+    ∷ step (c1 (LoadKept (codes "l1")) reply.NoSuch)
+    ∷ no_step (c1 (LoadKept (codes "l1")) reply.NotYet)
+    ∷ no_step (c1 (Install (codes "l1")) reply.NotYet)
+    ∷ [])
+    ∷ case (excise (codes "l1") a_to_c ∷ excise (codes "l2") m_to_t ∷ install (codes "l1") (changes [] [] []) ∷ []) (
+    step (c1 (put (codes "b") (codes "1")) reply.Done)
+    ∷ step (c1 (put (codes "n") (codes "1")) (reply.Fenced (codes "l2")))
+    ∷ no_step (c1 (put (codes "n") (codes "1")) reply.Done)
     ∷ [])
     -- a failed opening takes no other load with it
     ∷ case (excise (codes "l2") (from_to (codes "t") (codes "v")) ∷ c1 (opens (codes "l1") b_to_d_and_p None) reply.Opening ∷ c1 (opens (codes "l1") b_to_d_and_p None) reply.Memory ∷ []) (

@@ -148,7 +148,14 @@ flushes_beside_compactions =
 abbrev pub room_after_compactions : List Case
 room_after_compactions =
     case (four_compactions ++ holding (db (Build 2) reply.Fault) (Release 2 ∷ []) ∷ []) (
-    step (compact_key (codes "i") 5) ∷ no_step (no_compact (codes "i")) ∷ [])
+    step (compact_key (codes "i") 5)
+    ∷ no_step (no_compact (codes "i"))
+    -- over its own keys too, but not over those of the others
+    ∷ step (compact_key (codes "c") 5)
+    ∷ step (no_compact (codes "a"))
+    ∷ step (no_compact (codes "g"))
+    ∷ no_step (compact_key (codes "g") 5)
+    ∷ [])
     -- one that isn't put yet doesn't
     ∷ case (four_compactions ++ db (Put 2) reply.NotYet ∷ []) (step (no_compact (codes "i")) ∷ [])
     ∷ case (four_compactions ++ holding (changing (db (Put 2) reply.Installed) (changes ((5, 7) ∷ (6, 2) ∷ []) (75 ∷ []) ((6, loaded_key 75 (codes "c") 2) ∷ []))) (Release 2 ∷ []) ∷ []) (

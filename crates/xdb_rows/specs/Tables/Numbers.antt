@@ -171,9 +171,11 @@ files_of_compactions =
     case_from 1 (end - 65) (flushed_and_sealed (end - 65)) (
     step (holding (db (compact_l0 a_to_z) (reply.Job 2)) (Hold 1 1 ∷ []))
     ∷ no_step (db (compact_l0 a_to_z) reply.Spent)
+    ∷ step (db (compact_l0 a_to_z) reply.Memory)
     ∷ [])
     ∷ case_from 1 (end - 64) (flushed_and_sealed (end - 64)) (
     step (db (compact_l0 a_to_z) reply.Spent)
+    ∷ step (db (compact_l0 a_to_z) reply.Memory)
     ∷ no_step (holding (db (compact_l0 a_to_z) (reply.Job 2)) (Hold 1 1 ∷ []))
     ∷ step (db FlushTake (reply.Job 2))
     ∷ [])
@@ -228,6 +230,14 @@ left_half num half = half_of (a_and_z_at num) half (from_upto (codes "a") (codes
 abbrev pub right_half : ℕ → ℕ → Table
 right_half num half = half_of (a_and_z_at num) half (from_upto (codes "z") (codes "z"))
 
+-- two tables, of which one reaches beyond the span on its left, and one on its right
+abbrev pub two_to_halve : ℕ → List Note
+two_to_halve num =
+    stored (codes "a" ∷ []) ∷ flushed 1 1 (file_table num (from_to (codes "a") (codes "c")) 1 1 90)
+    ++ stored (codes "z" ∷ []) ∷ flushed 2 2 (file_table (num + 1) (from_to (codes "b") (codes "zz")) 2 2 90)
+    ++ excise (codes "l1") (from_to (codes "b") (codes "c"))
+    ∷ []
+
 -- a half has one, at the install
 abbrev pub files_of_halves : List Case
 files_of_halves =
@@ -262,6 +272,11 @@ files_of_halves =
     no_step (c1 (Install (codes "l1")) reply.Spent)
     ∷ step (install (codes "l1") (changes ((0, end - 1) ∷ []) [] []))
     ∷ [])
+    -- several have theirs in sum
+    ∷ case_from 1 (end - 4) (two_to_halve (end - 4)) (
+    no_step (c1 (Install (codes "l1")) reply.Spent) ∷ [])
+    ∷ case_from 1 (end - 3) (two_to_halve (end - 3)) (
+    step (c1 (Install (codes "l1")) reply.Spent) ∷ [])
     -- one beside it has none
     ∷ case_from 1 (end - 1) (to_halve (end - 1) (file_table (end - 1) (from_to (codes "c") (codes "zz")) 1 2 90)) (
     no_step (c1 (Install (codes "l1")) reply.Spent)

@@ -1,15 +1,16 @@
 -- Which of two replies comes first where both would stand.
-use Rattle.std.specs.Prelude.{ℕ, ◌-◌, ◌^◌, true, false, List, [], ◌∷◌, ◌++◌, None, Some, codes}
+use Rattle.std.specs.Prelude.{ℕ, map, ◌-◌, ◌^◌, true, false, List, [], ◌∷◌, ◌++◌, None, Some, codes}
 use Rattle.xdb_edit.specs.Changes.{changes}
-use Rattle.xdb_plain.specs.declared.act.Act.TheVariants.{Seal, FlushTake, CompactTake, Put, Install, Snap, Cursor, Shut, Ask, Settle, Reap}
+use Rattle.xdb_plain.specs.declared.act.Act.TheVariants.{Seal, FlushTake, CompactTake, Put, Build, Work, Install, Snap, Cursor, Shut, Ask, Settle, Show}
+use Rattle.xdb_plain.specs.declared.act.ShowWhat.TheVariants as show
 use Rattle.xdb_plain.specs.declared.act.Which.TheVariants.{Auto}
 use Rattle.xdb_plain.specs.declared.note.HoldNote.TheVariants.{Hold, Release}
 use Rattle.xdb_plain.specs.declared.note.Note.{Note}
 use Rattle.xdb_plain.specs.declared.question.Question.TheVariants.{Move}
 use Rattle.xdb_plain.specs.declared.question.Step.TheVariants.{First}
 use Rattle.xdb_plain.specs.declared.reply.Reply.TheVariants as reply
-use Rattle.xdb_rows.specs.Judged.{Case, case, case_from, step, no_step}
-use Rattle.xdb_rows.specs.Notes.{c1, c2, db, holding, trying, from_to, from_upto, file_table, put, get_at, scan, excise, install, flushed, compact_l0, let_go, ask_held, ask_refused}
+use Rattle.xdb_rows.specs.Judged.{Case, Next, case, case_from, step, no_step}
+use Rattle.xdb_rows.specs.Notes.{c1, c2, db, holding, trying, from_to, from_upto, file_table, put, get, get_at, scan, excise, install, flushed, compact_l0, let_go, ask_held, ask_refused}
 use Rattle.xdb_rows.specs.Tables.Small.{a_to_c, a_to_m, c_to_e, m_to_t, a_to_z, sets, stored, table_with, opens, opens_span, many_loads, many_cursors, many_questions, many_snaps}
 
 -- the span from a to m is fenced
@@ -287,4 +288,83 @@ orders_of_questions_at_64 =
     ∷ step (ask_refused (scan a_to_m) reply.TooMany)
     ∷ no_step (ask_refused (scan a_to_m) reply.Memory)
     ∷ [])
+    ∷ []
+
+-- a cursor is busy with its own question, and with no other
+abbrev pub busy_with_moves : List Case
+busy_with_moves =
+    case (
+    holding (c1 (Cursor (codes "k") a_to_m None) reply.CursorOn) (Hold 1 0 ∷ [])
+    ∷ holding (c1 (Cursor (codes "j") a_to_m None) reply.CursorOn) (Hold 2 0 ∷ [])
+    ∷ ask_held 1 (get (codes "a")) true (Hold 3 0)
+    ∷ ask_held 2 (Move (codes "k") First) true (Hold 4 0) ∷ []) (
+    step (c1 (Shut (codes "k")) (reply.Busy 2))
+    ∷ no_step (c1 (Shut (codes "k")) (reply.Busy 1))
+    ∷ step (let_go (Shut (codes "j")) reply.Shut 2)
+    ∷ no_step (c1 (Shut (codes "j")) (reply.Busy 2))
+    ∷ no_step (c1 (Shut (codes "j")) (reply.Busy 1))
+    ∷ step (ask_held 3 (Move (codes "j") First) true (Hold 5 0))
+    ∷ no_step (ask_refused (Move (codes "j") First) (reply.Busy 2))
+    ∷ no_step (ask_refused (get (codes "a")) (reply.Busy 1))
+    -- other clients find it busy as well
+    ∷ step (c2 (Shut (codes "k")) (reply.Busy 2))
+    ∷ no_step (holding (c2 (Shut (codes "k")) reply.Shut) (Release 1 ∷ []))
+    ∷ [])
+    -- until the question ends
+    ∷ case (
+    holding (c1 (Cursor (codes "k") a_to_m None) reply.CursorOn) (Hold 1 0 ∷ [])
+    ∷ ask_held 1 (Move (codes "k") First) true (Hold 2 0)
+    ∷ holding (db (Work 1) reply.Fault) (Release 2 ∷ []) ∷ []) (
+    step (let_go (Shut (codes "k")) reply.Shut 1) ∷ no_step (c1 (Shut (codes "k")) (reply.Busy 1)) ∷ [])
+    ∷ []
+
+abbrev pub fails_with : Note → List ℕ → List Next
+fails_with n holds = step (record n { reply = reply.Fault; holds = map Release holds }) ∷ step (record n { reply = reply.Damaged 1 0; holds = map Release holds }) ∷ step (record n { reply = reply.Memory; holds = map Release holds }) ∷ []
+
+abbrev pub fails_not : Note → List Next
+fails_not n = no_step (record n { reply = reply.Fault }) ∷ no_step (record n { reply = reply.Damaged 1 0 }) ∷ no_step (record n { reply = reply.Memory }) ∷ []
+
+-- what work that is under way may come to
+abbrev pub failures_of_work : List Case
+failures_of_work =
+    -- there is none
+    case [] (
+    step (db (Build 1) reply.NoSuch) ∷ step (db (Work 1) reply.NoSuch) ∷ (fails_not (db (Build 1) reply.NoSuch) ++ fails_not (db (Work 1) reply.NoSuch)))
+    -- a flush, which holds nothing
+    ∷ case (stored (codes "a" ∷ []) ∷ db Seal (reply.Group 1) ∷ db FlushTake (reply.Job 1) ∷ []) (
+    step (db (Build 1) reply.NoSuch)
+    ∷ step (db (Put 1) reply.NotYet)
+    ∷ step (db (Put 1) reply.Memory)
+    ∷ no_step (db (Put 1) reply.Fault)
+    ∷ no_step (db (Build 1) reply.NotYet)
+    ∷ (fails_with (db (Build 1) reply.NoSuch) [] ++ fails_not (db (Build 2) reply.NoSuch)))
+    -- a question in parts
+    ∷ case (ask_held 1 (get (codes "a")) true (Hold 1 0) ∷ []) (
+    step (db (Work 1) reply.NoSuch)
+    ∷ step (c1 (Settle 1) reply.NotYet)
+    ∷ no_step (c1 (Settle 1) reply.Memory)
+    ∷ no_step (c1 (Ask 1 (get (codes "a")) true) reply.NoSuch)
+    ∷ (fails_with (db (Work 1) reply.NoSuch) (1 ∷ []) ++ fails_not (db (Work 2) reply.NoSuch)))
+    ∷ case (ask_held 1 (get (codes "a")) true (Hold 1 0) ∷ []) (
+    no_step (holding (c1 (Ask 1 (get (codes "a")) true) reply.Fault) (Release 1 ∷ []))
+    ∷ no_step (holding (c1 (Ask 1 (get (codes "a")) true) reply.Memory) (Release 1 ∷ []))
+    ∷ [])
+    -- one that isn't
+    ∷ case (ask_held 1 (get (codes "a")) false (Hold 1 0) ∷ []) (
+    step (db (Work 1) reply.NoSuch)
+    ∷ no_step (holding (db (Work 1) reply.Fault) (Release 1 ∷ []))
+    ∷ no_step (holding (db (Work 1) reply.Memory) (Release 1 ∷ []))
+    ∷ step (c1 (Settle 1) reply.NotYet)
+    ∷ fails_with (c1 (Ask 1 (get (codes "a")) false) reply.NoSuch) (1 ∷ []))
+    -- the opening of a load
+    ∷ case (c1 (opens (codes "l1") (table_with (codes "t") a_and_d ∷ []) None) reply.Opening ∷ []) (
+    step (c1 (opens (codes "l1") (table_with (codes "t") a_and_d ∷ []) None) reply.Opened)
+    ∷ step (c1 (opens (codes "l1") (table_with (codes "t") a_and_d ∷ []) None) reply.Fault)
+    ∷ step (c1 (opens (codes "l1") (table_with (codes "t") a_and_d ∷ []) None) reply.Memory)
+    ∷ step (c1 (opens (codes "l1") (table_with (codes "t") a_and_d ∷ []) None) reply.NameInUse)
+    ∷ no_step (c1 (opens (codes "l1") (table_with (codes "t") a_and_d ∷ []) None) (reply.Damaged 1 0))
+    ∷ no_step (c1 (opens (codes "l1") (table_with (codes "t") a_and_d ∷ []) None) reply.NotYet)
+    ∷ [])
+    -- what is shown may want memory
+    ∷ case [] (step (db (Show show.Levels) reply.Memory) ∷ no_step (db (Show show.Levels) reply.Nothing) ∷ [])
     ∷ []

@@ -164,6 +164,11 @@ picks_of_l0 =
     ∷ no_step (put_one 4 1 (codes "b") 69)
     ∷ no_step (put_one 4 2 (codes "c") 69)
     ∷ [])
+    -- they are named by their file numbers
+    ∷ case (four_in_l0 ++ compact (from_to (codes "a") (codes "e")) 4 3 ∷ []) (
+    step (put_compaction 4 ((0, 1) ∷ (0, 2) ∷ (0, 3) ∷ (0, 4) ∷ []) (69 ∷ []) ((1, file_table 69 (from_upto (codes "a") (codes "d")) 1 3 90) ∷ []))
+    ∷ no_step (put_compaction 4 ((0, 3) ∷ (0, 4) ∷ (0, 1) ∷ (0, 2) ∷ []) (69 ∷ []) ((1, file_table 69 (from_upto (codes "a") (codes "d")) 1 3 90) ∷ []))
+    ∷ [])
     ∷ []
 
 -- where a running compaction is over the first, the next is tried
