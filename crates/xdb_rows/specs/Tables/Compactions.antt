@@ -1,11 +1,10 @@
 -- What a running compaction keeps others from, what cancels it, where loaded tables go, and which plan is taken.
-use Rattle.std.specs.Prelude.{ℕ, ◌+◌, ◌*◌, ◌^◌, true, false, List, [], ◌∷◌, ◌++◌, None, Some, codes}
+use Rattle.std.specs.Prelude.{ℕ, List, [], ◌∷◌, ◌++◌, None, Some, codes}
 use Rattle.xdb_key.specs.Bounds.{Bounds, successor}
 use Rattle.xdb_key.specs.declared.op.Op.TheVariants.{DelSpan}
 use Rattle.xdb_meta.specs.Table.{Table}
 use Rattle.xdb_edit.specs.Changes.{changes}
-use Rattle.xdb_plain.specs.Tables.{TableOps, table_ops}
-use Rattle.xdb_plain.specs.declared.act.Act.{Act}
+use Rattle.xdb_plain.specs.Tables.{table_ops}
 use Rattle.xdb_plain.specs.declared.act.Act.TheVariants.{CompactTake, Put, Build, Install}
 use Rattle.xdb_plain.specs.declared.act.Which.TheVariants.{Auto, At}
 use Rattle.xdb_plain.specs.declared.note.HoldNote.TheVariants.{Hold, Release}
@@ -13,7 +12,7 @@ use Rattle.xdb_plain.specs.declared.note.Note.{Note}
 use Rattle.xdb_plain.specs.declared.reply.Reply.TheVariants as reply
 use Rattle.xdb_rows.specs.Judged.{Case, case, step, no_step}
 use Rattle.xdb_rows.specs.Notes.{c1, db, holding, changing, from_to, from_upto, file_table, loaded_table, table_of_key, half_of, flushed, excise, install, load, compact_l0}
-use Rattle.xdb_rows.specs.Tables.Small.{a_to_c, a_to_z, c_to_e, stored, table_with, loaded_key}
+use Rattle.xdb_rows.specs.Tables.Small.{a_to_c, a_to_z, stored, table_with, loaded_key}
 
 abbrev pub one : List ℕ → Bounds
 one key = from_upto key key

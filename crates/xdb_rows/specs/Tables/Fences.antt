@@ -1,6 +1,5 @@
 -- Whom the fence of an open load keeps out, whom it names, and what its opening seals.
-use Rattle.std.specs.Prelude.{ℕ, true, false, List, [], ◌∷◌, ◌++◌, None, Some, codes}
-use Rattle.xdb_key.specs.Bounds.{successor}
+use Rattle.std.specs.Prelude.{List, [], ◌∷◌, ◌++◌, None, Some, codes}
 use Rattle.xdb_key.specs.declared.op.Op.TheVariants.{DelSpan}
 use Rattle.xdb_edit.specs.Changes.{changes}
 use Rattle.xdb_plain.specs.Tables.{TableOps, table_ops}

@@ -1,17 +1,16 @@
 -- How many of a kind may be open at a time: at the limit, and one beyond.
-use Rattle.std.specs.Prelude.{ℕ, true, false, List, [], ◌∷◌, ◌++◌, ◌+◌, map, None, Some, codes}
+use Rattle.std.specs.Prelude.{ℕ, true, false, List, [], ◌∷◌, ◌++◌, ◌+◌, map, None, codes}
 use Rattle.xdb_edit.specs.Changes.{changes}
 use Rattle.xdb_meta.specs.Table.{Table}
 use Rattle.xdb_plain.specs.Tables.{TableOps}
 use Rattle.xdb_plain.specs.declared.act.Act.{Act}
-use Rattle.xdb_plain.specs.declared.act.Act.TheVariants.{Seal, FlushTake, CompactTake, Put, Build, Snap, Drop, Cursor, Shut, Settle, Work}
+use Rattle.xdb_plain.specs.declared.act.Act.TheVariants.{Seal, FlushTake, CompactTake, Put, Build, Snap, Drop, Cursor, Shut, Work}
 use Rattle.xdb_plain.specs.declared.act.Which.TheVariants.{At}
-use Rattle.xdb_plain.specs.declared.answer.Answer.TheVariants.{Absent}
 use Rattle.xdb_plain.specs.declared.note.HoldNote.TheVariants.{Hold, Release}
 use Rattle.xdb_plain.specs.declared.note.Note.{Note}
 use Rattle.xdb_plain.specs.declared.reply.Reply.TheVariants as reply
 use Rattle.xdb_rows.specs.Judged.{Case, case, step, no_step}
-use Rattle.xdb_rows.specs.Notes.{c1, db, holding, changing, trying, from_to, from_upto, get, excise, install, load, let_go, ask_held, ask_refused}
+use Rattle.xdb_rows.specs.Notes.{c1, db, holding, changing, from_to, from_upto, get, excise, install, load, let_go, ask_held, ask_refused}
 use Rattle.xdb_rows.specs.Tables.Small.{a_to_m, stored, table_with, opens, opens_span, loaded_key, nth_name, many_loads, many_cursors, many_questions, many_snaps}
 
 abbrev pub x_to_y : Act

@@ -1,20 +1,18 @@
 -- Who may make an act: 16 clients, or the owner.
-use Rattle.std.specs.Prelude.{ℕ, true, false, List, [], ◌∷◌, ◌++◌, map, None, Some, codes}
+use Rattle.std.specs.Prelude.{true, false, List, [], ◌∷◌, ◌++◌, None, Some, codes}
 use Rattle.xdb_edit.specs.Changes.{changes}
 use Rattle.xdb_plain.specs.declared.act.Act.{Act}
 use Rattle.xdb_plain.specs.declared.act.Act.TheVariants.{Seal, FlushTake, CompactTake, Put, Build, Work, LoadKept, Install, Snap, Drop, Status, Cursor, Shut, Ask, Settle, Reap, Remove, Show}
-use Rattle.xdb_plain.specs.declared.act.By.{By}
 use Rattle.xdb_plain.specs.declared.act.By.TheVariants.{Client, Db}
 use Rattle.xdb_plain.specs.declared.act.ShowWhat.TheVariants as show
 use Rattle.xdb_plain.specs.declared.act.StatusForm.TheVariants as status_form
 use Rattle.xdb_plain.specs.declared.act.Which.TheVariants.{Auto}
 use Rattle.xdb_plain.specs.declared.note.HoldNote.TheVariants.{Hold, Release}
-use Rattle.xdb_plain.specs.declared.note.Note.{Note}
 use Rattle.xdb_plain.specs.declared.reply.Reply.{Reply}
 use Rattle.xdb_plain.specs.declared.reply.Reply.TheVariants as reply
 use Rattle.xdb_rows.specs.Judged.{Case, Next, case, step, no_step}
-use Rattle.xdb_rows.specs.Notes.{note, c1, db, put, delspan, get, get_at, excise, install, flushed, table_of_key}
-use Rattle.xdb_rows.specs.Tables.Small.{a_to_c, a_to_m, m_to_t, sets, stored, opens, opens_span}
+use Rattle.xdb_rows.specs.Notes.{note, db, get_at, excise, install, flushed, table_of_key}
+use Rattle.xdb_rows.specs.Tables.Small.{a_to_c, a_to_m, m_to_t, sets, stored, opens_span}
 
 -- a client's act is no other's, and the owner's act is no client's
 abbrev pub by_client : Act → Reply → List Next

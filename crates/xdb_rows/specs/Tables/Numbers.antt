@@ -1,15 +1,15 @@
 -- How many sequence numbers and file numbers there are, and who takes or keeps back how many: each at the last
 -- number that serves, and at the one behind it.
-use Rattle.std.specs.Prelude.{ℕ, ◌+◌, ◌-◌, ◌^◌, true, false, List, [], ◌∷◌, ◌++◌, None, Some, codes}
+use Rattle.std.specs.Prelude.{ℕ, ◌+◌, ◌-◌, ◌^◌, List, [], ◌∷◌, ◌++◌, None, Some, codes}
 use Rattle.xdb_edit.specs.Changes.{changes}
 use Rattle.xdb_meta.specs.Table.{Table}
 use Rattle.xdb_plain.specs.Tables.{TableOps}
-use Rattle.xdb_plain.specs.declared.act.Act.TheVariants.{Seal, FlushTake, Put, Build, Install}
-use Rattle.xdb_plain.specs.declared.note.HoldNote.TheVariants.{Hold, Release}
+use Rattle.xdb_plain.specs.declared.act.Act.TheVariants.{Seal, FlushTake, Build, Install}
+use Rattle.xdb_plain.specs.declared.note.HoldNote.TheVariants.{Hold}
 use Rattle.xdb_plain.specs.declared.note.Note.{Note}
 use Rattle.xdb_plain.specs.declared.reply.Reply.TheVariants as reply
 use Rattle.xdb_rows.specs.Judged.{Case, case_from, step, no_step}
-use Rattle.xdb_rows.specs.Notes.{c1, db, holding, trying, from_to, from_upto, file_table, loaded_table, half_of, put, excise, install, load, flushed, compact_l0}
+use Rattle.xdb_rows.specs.Notes.{c1, db, holding, from_to, from_upto, file_table, half_of, put, excise, install, load, flushed, compact_l0}
 use Rattle.xdb_rows.specs.Tables.Small.{a_to_m, m_to_t, a_to_z, sets, stored, table_with, opens, opens_span, loaded_key}
 
 -- one more than the last number

@@ -10,8 +10,8 @@ use Rattle.xdb_plain.specs.declared.question.Question.TheVariants.{Move}
 use Rattle.xdb_plain.specs.declared.question.Step.TheVariants.{First}
 use Rattle.xdb_plain.specs.declared.reply.Reply.TheVariants as reply
 use Rattle.xdb_rows.specs.Judged.{Case, Next, case, case_from, step, no_step}
-use Rattle.xdb_rows.specs.Notes.{c1, c2, db, holding, trying, from_to, from_upto, file_table, put, get, get_at, scan, excise, install, flushed, compact_l0, let_go, ask_held, ask_refused}
-use Rattle.xdb_rows.specs.Tables.Small.{a_to_c, a_to_m, c_to_e, m_to_t, a_to_z, sets, stored, table_with, opens, opens_span, many_loads, many_cursors, many_questions, many_snaps}
+use Rattle.xdb_rows.specs.Notes.{c1, c2, db, holding, from_to, from_upto, file_table, put, get, get_at, scan, excise, install, flushed, compact_l0, let_go, ask_held, ask_refused}
+use Rattle.xdb_rows.specs.Tables.Small.{a_to_c, a_to_m, c_to_e, m_to_t, a_to_z, stored, table_with, opens, opens_span, many_loads, many_cursors, many_questions, many_snaps}
 
 -- the span from a to m is fenced
 abbrev pub fenced_a_to_m : Note

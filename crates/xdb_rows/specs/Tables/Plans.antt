@@ -1,16 +1,16 @@
 -- Which plan a compaction has, seen from what it takes and puts.
-use Rattle.std.specs.Prelude.{ℕ, ◌+◌, ◌-◌, ◌*◌, ◌^◌, true, false, List, [], ◌∷◌, ◌++◌, None, Some, codes}
+use Rattle.std.specs.Prelude.{ℕ, ◌+◌, ◌-◌, ◌*◌, ◌^◌, List, [], ◌∷◌, ◌++◌, None, codes}
 use Rattle.xdb_key.specs.Bounds.{Bounds, successor}
 use Rattle.xdb_meta.specs.Table.{Table}
 use Rattle.xdb_edit.specs.Changes.{changes}
 use Rattle.xdb_plain.specs.Tables.{TableOps}
 use Rattle.xdb_plain.specs.declared.act.Act.TheVariants.{CompactTake, Build}
 use Rattle.xdb_plain.specs.declared.act.Which.TheVariants.{Auto, At}
-use Rattle.xdb_plain.specs.declared.note.HoldNote.TheVariants.{Hold, Release}
+use Rattle.xdb_plain.specs.declared.note.HoldNote.TheVariants.{Release}
 use Rattle.xdb_plain.specs.declared.note.Note.{Note}
 use Rattle.xdb_plain.specs.declared.reply.Reply.TheVariants as reply
 use Rattle.xdb_rows.specs.Judged.{Case, case, step, no_step}
-use Rattle.xdb_rows.specs.Notes.{db, holding, from_to, from_upto, file_table, loaded_table, table_of_key, flushed, install, load, compact_l0}
+use Rattle.xdb_rows.specs.Notes.{db, holding, from_to, from_upto, file_table, loaded_table, flushed, install, load}
 use Rattle.xdb_rows.specs.Tables.Small.{a_to_z, stored, table_with, loaded_key}
 use Rattle.xdb_rows.specs.Tables.Compactions.{one, compact, compact_at, compact_auto, put_compaction, running, a_to_d}
 

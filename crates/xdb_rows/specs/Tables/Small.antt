@@ -1,17 +1,16 @@
 -- Short histories that several tables of cases stand on, and short ways to write their notes.
-use Rattle.std.specs.Prelude.{ℕ, ◌+◌, ◌/◌, ◌%◌, true, List, [], ◌∷◌, ◌++◌, map, Option, Some, None, codes}
+use Rattle.std.specs.Prelude.{ℕ, ◌+◌, ◌/◌, ◌%◌, true, List, [], ◌∷◌, map, Option, Some, None, codes}
 use Rattle.std.specs.List.{range_with_len}
 use Rattle.xdb_key.specs.Bounds.{Bounds}
 use Rattle.xdb_key.specs.declared.op.Op.TheVariants.{Set}
 use Rattle.xdb_meta.specs.Table.{Table}
-use Rattle.xdb_edit.specs.Changes.{changes}
 use Rattle.xdb_plain.specs.Tables.{TableOps, table_ops}
 use Rattle.xdb_plain.specs.declared.act.Act.{Act}
 use Rattle.xdb_plain.specs.declared.act.Act.TheVariants.{Snap, Cursor, LoadOpen}
 use Rattle.xdb_plain.specs.declared.note.HoldNote.TheVariants.{Hold}
 use Rattle.xdb_plain.specs.declared.note.Note.{Note}
 use Rattle.xdb_plain.specs.declared.reply.Reply.TheVariants as reply
-use Rattle.xdb_rows.specs.Notes.{c1, holding, from_to, from_upto, loaded_table, batch, get, excise, install, load, ask_held}
+use Rattle.xdb_rows.specs.Notes.{c1, holding, from_to, from_upto, loaded_table, batch, get, excise, ask_held}
 
 abbrev pub a_to_c : Bounds
 a_to_c = from_to (codes "a") (codes "c")

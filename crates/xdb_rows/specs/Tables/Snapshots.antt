@@ -1,8 +1,7 @@
 -- What pins a snapshot, what turns it file-only, and what excises it.
-use Rattle.std.specs.Prelude.{ℕ, true, false, List, [], ◌∷◌, ◌++◌, None, Some, codes}
+use Rattle.std.specs.Prelude.{ℕ, true, List, [], ◌∷◌, ◌++◌, None, Some, codes}
 use Rattle.xdb_key.specs.Bounds.{Bounds}
 use Rattle.xdb_key.specs.declared.state.SnapState.TheVariants as state
-use Rattle.xdb_meta.specs.Table.{Table}
 use Rattle.xdb_edit.specs.Changes.{changes}
 use Rattle.xdb_plain.specs.declared.act.Act.{Act}
 use Rattle.xdb_plain.specs.declared.act.Act.TheVariants.{Seal, FlushTake, Put, Build, Install, Snap, Drop, Status, Cursor, Show}
@@ -15,7 +14,7 @@ use Rattle.xdb_plain.specs.declared.question.Question.TheVariants.{Scan, RScan}
 use Rattle.xdb_plain.specs.declared.reply.Reply.{Reply}
 use Rattle.xdb_plain.specs.declared.reply.Reply.TheVariants as reply
 use Rattle.xdb_rows.specs.Judged.{Case, case, step, no_step, wrong_holds}
-use Rattle.xdb_rows.specs.Notes.{c1, c2, db, holding, changing, from_to, from_upto, file_table, table_of_key, delspan, get_at, put_flush, flushed, excise, install, load, compact_l0, let_go, ask_held, ask_refused}
+use Rattle.xdb_rows.specs.Notes.{c1, c2, db, holding, changing, from_to, from_upto, table_of_key, delspan, get_at, put_flush, flushed, excise, install, load, compact_l0, let_go, ask_held, ask_refused}
 use Rattle.xdb_rows.specs.Tables.Small.{a_to_c, a_to_m, c_to_e, m_to_t, a_to_z, stored, table_with, loaded_key}
 
 abbrev pub snap : List ℕ → List Bounds → Act
