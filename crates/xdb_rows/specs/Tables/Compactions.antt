@@ -4,7 +4,7 @@ use Rattle.xdb_key.specs.Bounds.{Bounds, successor}
 use Rattle.xdb_key.specs.declared.op.Op.TheVariants.{DelSpan}
 use Rattle.xdb_meta.specs.Table.{Table}
 use Rattle.xdb_edit.specs.Changes.{changes}
-use Rattle.xdb_plain.specs.Tables.{table_ops}
+use Rattle.xdb_plain.specs.Tables.{TableOps, table_ops}
 use Rattle.xdb_plain.specs.declared.act.Act.TheVariants.{CompactTake, Put, Build, Install}
 use Rattle.xdb_plain.specs.declared.act.Which.TheVariants.{Auto, At}
 use Rattle.xdb_plain.specs.declared.note.HoldNote.TheVariants.{Hold, Release}
@@ -22,7 +22,8 @@ abbrev pub compact : Bounds → ℕ → ℕ → Note
 compact range job version = holding (db (compact_l0 range) (reply.Job job)) (Hold job version ∷ [])
 
 abbrev pub compact_at : ℕ → Bounds → ℕ → ℕ → Note
-compact_at level range job version = holding (db (CompactTake (At level range)) (reply.Job job)) (Hold job version ∷ [])
+compact_at level range job version =
+    holding (db (CompactTake (At level range)) (reply.Job job)) (Hold job version ∷ [])
 
 abbrev pub compact_auto : ℕ → ℕ → Note
 compact_auto job version = holding (db (CompactTake Auto) (reply.Job job)) (Hold job version ∷ [])
@@ -34,6 +35,18 @@ put_compaction job inputs files outputs =
 
 abbrev pub put_cancelled : ℕ → List ℕ → Note
 put_cancelled job load_name = holding (db (Put job) (reply.Cancelled load_name)) (Release job ∷ [])
+
+abbrev pub behind_a : Bounds
+behind_a = from_to (successor (codes "a")) (codes "c")
+
+abbrev pub behind_d : Bounds
+behind_d = from_to (successor (codes "d")) (codes "f")
+
+abbrev pub x_to_y : Bounds
+x_to_y = from_to (codes "x") (codes "y")
+
+abbrev pub only_b : List TableOps
+only_b = table_with (codes "t") (codes "b" ∷ []) ∷ []
 
 abbrev pub a_to_d : Bounds
 a_to_d = from_upto (codes "a") (codes "d")
@@ -77,9 +90,9 @@ blocked_by_cancelled =
     ∷ step (db (Put 2) reply.NoSuch)
     ∷ no_step (db (Put 2) reply.NotYet)
     ∷ [])
-    ∷ case (cancelled ++ load (codes "l2") (table_with (codes "t") (codes "b" ∷ []) ∷ []) None) (
+    ∷ case (cancelled ++ load (codes "l2") only_b None) (
     step (install_b 0) ∷ no_step (install_b 6) ∷ [])
-    ∷ case (cancelled ++ load (codes "l2") (table_with (codes "t") (codes "b" ∷ []) ∷ []) None ++ put_cancelled 2 (codes "l1") ∷ []) (
+    ∷ case (cancelled ++ load (codes "l2") only_b None ++ put_cancelled 2 (codes "l1") ∷ []) (
     step (install_b 6) ∷ no_step (install_b 0) ∷ [])
     -- one that failed keeps nothing off any more
     ∷ case (running ++ holding (db (Build 2) reply.Fault) (Release 2 ∷ []) ∷ []) (
@@ -99,13 +112,15 @@ install_plain name = install name (changes [] [] [])
 abbrev pub cancelled_by_the_first : List Case
 cancelled_by_the_first =
     -- the first that was installed, and no later one
-    case (running ++ excise (codes "l1") b_to_c ∷ excise (codes "l2") c_to_d ∷ install_halves (codes "l1") ∷ install_plain (codes "l2") ∷ []) (
+    case (running ++ excise (codes "l1") b_to_c ∷ excise (codes "l2") c_to_d ∷ install_halves (codes "l1")
+    ∷ install_plain (codes "l2") ∷ []) (
     step (put_cancelled 2 (codes "l1"))
     ∷ no_step (put_cancelled 2 (codes "l2"))
     ∷ no_step put_running
     ∷ [])
     -- and not the first that was opened
-    ∷ case (running ++ excise (codes "l1") b_to_c ∷ excise (codes "l2") c_to_d ∷ install_halves (codes "l2") ∷ install_plain (codes "l1") ∷ []) (
+    ∷ case (running ++ excise (codes "l1") b_to_c ∷ excise (codes "l2") c_to_d ∷ install_halves (codes "l2")
+    ∷ install_plain (codes "l1") ∷ []) (
     step (put_cancelled 2 (codes "l2")) ∷ no_step (put_cancelled 2 (codes "l1")) ∷ [])
     ∷ []
 
@@ -113,7 +128,8 @@ cancelled_by_the_first =
 abbrev pub cancelled_by_spans : List Case
 cancelled_by_spans =
     -- not those that only touch the hull
-    case (running ++ excise (codes "l1") (from_to (successor (codes "d")) (codes "z")) ∷ install_plain (codes "l1")
+    case (running ++ excise (codes "l1") (from_to (successor (codes "d")) (codes "z"))
+    ∷ install_plain (codes "l1")
     ∷ excise (codes "l2") (from_to (codes "A") (codes "a")) ∷ install_plain (codes "l2") ∷ []) (
     step put_running
     ∷ step (db (Put 2) reply.Memory)
@@ -128,10 +144,10 @@ cancelled_by_spans =
     ∷ case (running ++ excise (codes "l1") b_to_c ∷ c1 (Install (codes "l1")) reply.Fault ∷ []) (
     step put_running ∷ no_step (put_cancelled 2 (codes "l1")) ∷ [])
     -- not the tables of a load, with a span beside the hull or with none
-    ∷ case (running ++ load (codes "l1") (table_with (codes "t") (codes "b" ∷ []) ∷ []) None
+    ∷ case (running ++ load (codes "l1") only_b None
     ++ install (codes "l1") (changes [] (66 ∷ []) ((0, loaded_key 66 (codes "b") 3) ∷ [])) ∷ []) (
     step put_running ∷ no_step (put_cancelled 2 (codes "l1")) ∷ [])
-    ∷ case (running ++ load (codes "l1") (table_with (codes "t") (codes "b" ∷ []) ∷ []) (Some (from_to (codes "x") (codes "y")))
+    ∷ case (running ++ load (codes "l1") only_b (Some x_to_y)
     ++ install (codes "l1") (changes [] (66 ∷ []) ((0, loaded_key 66 (codes "b") 3) ∷ [])) ∷ []) (
     step put_running ∷ no_step (put_cancelled 2 (codes "l1")) ∷ [])
     ∷ []
@@ -156,7 +172,7 @@ cancelled_apart =
 
 -- a load of a table of b, and its install
 abbrev pub load_b : List Note
-load_b = load (codes "l1") (table_with (codes "t") (codes "b" ∷ []) ∷ []) None
+load_b = load (codes "l1") only_b None
 
 abbrev pub b_to : ℕ → ℕ → ℕ → Note
 b_to level num seq = install (codes "l1") (changes [] (num ∷ []) ((level, loaded_key num (codes "b") seq) ∷ []))
@@ -165,11 +181,13 @@ b_to level num seq = install (codes "l1") (changes [] (num ∷ []) ((level, load
 abbrev pub placed_beside_running : List Case
 placed_beside_running =
     case (a_and_d ++ load_b) (step (b_to 6 3 3) ∷ no_step (b_to 0 3 3) ∷ no_step (b_to 5 3 3) ∷ [])
-    ∷ case (a_and_d ++ compact a_to_z 3 2 ∷ load_b) (step (b_to 0 67 3) ∷ no_step (b_to 6 67 3) ∷ no_step (b_to 1 67 3) ∷ [])
+    ∷ case (a_and_d ++ compact a_to_z 3 2 ∷ load_b) (step (b_to 0 67 3) ∷ no_step (b_to 6 67 3)
+    ∷ no_step (b_to 1 67 3) ∷ [])
     -- what only touches it goes down
-    ∷ case (a_and_d ++ compact a_to_z 3 2 ∷ load (codes "l1") (table_ops (codes "t") (DelSpan (from_to (successor (codes "d")) (codes "f")) ∷ []) ∷ []) None) (
-    step (install (codes "l1") (changes [] (67 ∷ []) ((6, loaded_table 67 (from_to (successor (codes "d")) (codes "f")) 3 80) ∷ [])))
-    ∷ no_step (install (codes "l1") (changes [] (67 ∷ []) ((0, loaded_table 67 (from_to (successor (codes "d")) (codes "f")) 3 80) ∷ [])))
+    ∷ case (a_and_d ++ compact a_to_z 3 2
+    ∷ load (codes "l1") (table_ops (codes "t") (DelSpan behind_d ∷ []) ∷ []) None) (
+    step (install (codes "l1") (changes [] (67 ∷ []) ((6, loaded_table 67 behind_d 3 80) ∷ [])))
+    ∷ no_step (install (codes "l1") (changes [] (67 ∷ []) ((0, loaded_table 67 behind_d 3 80) ∷ [])))
     ∷ [])
     ∷ []
 
@@ -189,7 +207,8 @@ load_a = load (codes "l9") (table_with (codes "t") (codes "a" ∷ []) ∷ []) No
 abbrev pub placed_above : List Case
 placed_above =
     case load_a (step (a_to 1 1 6) ∷ no_step (a_to 1 1 5) ∷ no_step (a_to 1 1 0) ∷ [])
-    ∷ case (a_goes (codes "l1") 1 6 ++ load_a) (step (a_to 2 2 5) ∷ no_step (a_to 2 2 6) ∷ no_step (a_to 2 2 4) ∷ [])
+    ∷ case (a_goes (codes "l1") 1 6 ++ load_a) (step (a_to 2 2 5) ∷ no_step (a_to 2 2 6)
+    ∷ no_step (a_to 2 2 4) ∷ [])
     ∷ case (a_goes (codes "l1") 1 6 ++ a_goes (codes "l2") 2 5 ++ load_a) (
     step (a_to 3 3 4) ∷ no_step (a_to 3 3 3) ∷ no_step (a_to 3 3 5) ∷ [])
     -- L0 is above them all
@@ -201,9 +220,9 @@ placed_above =
     step (a_to 66 2 0) ∷ no_step (a_to 66 2 1) ∷ no_step (a_to 66 2 6) ∷ [])
     -- what only touches a table is beside it
     ∷ case (stored (codes "a" ∷ []) ∷ flushed 1 1 (table_of_key 1 (codes "a") 1)
-    ++ load (codes "l9") (table_ops (codes "t") (DelSpan (from_to (successor (codes "a")) (codes "c")) ∷ []) ∷ []) None) (
-    step (install (codes "l9") (changes [] (2 ∷ []) ((6, loaded_table 2 (from_to (successor (codes "a")) (codes "c")) 2 80) ∷ [])))
-    ∷ no_step (install (codes "l9") (changes [] (2 ∷ []) ((0, loaded_table 2 (from_to (successor (codes "a")) (codes "c")) 2 80) ∷ [])))
+    ++ load (codes "l9") (table_ops (codes "t") (DelSpan behind_a ∷ []) ∷ []) None) (
+    step (install (codes "l9") (changes [] (2 ∷ []) ((6, loaded_table 2 behind_a 2 80) ∷ [])))
+    ∷ no_step (install (codes "l9") (changes [] (2 ∷ []) ((0, loaded_table 2 behind_a 2 80) ∷ [])))
     ∷ [])
     ∷ []
 
@@ -212,7 +231,7 @@ table_a_to_z = file_table 1 (from_upto (codes "a") (codes "z")) 1 2 90
 
 -- a load of c with the span from x to y, over a table from a to z
 abbrev pub span_and_c : List Note
-span_and_c = load (codes "l2") (table_with (codes "t") (codes "c" ∷ []) ∷ []) (Some (from_to (codes "x") (codes "y")))
+span_and_c = load (codes "l2") (table_with (codes "t") (codes "c" ∷ []) ∷ []) (Some x_to_y)
 
 -- the table is cut: its left half ends at a key, and the loaded table is written before the halves or behind them
 abbrev pub cut_l0_and_c : List ℕ → List (ℕ × Table) → List (ℕ × Table) → Note

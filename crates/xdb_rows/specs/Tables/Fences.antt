@@ -1,5 +1,5 @@
 -- Whom the fence of an open load keeps out, whom it names, and what its opening seals.
-use Rattle.std.specs.Prelude.{List, [], ◌∷◌, ◌++◌, None, Some, codes}
+use Rattle.std.specs.Prelude.{ℕ, List, [], ◌∷◌, ◌++◌, None, Some, codes}
 use Rattle.xdb_key.specs.declared.op.Op.TheVariants.{DelSpan}
 use Rattle.xdb_edit.specs.Changes.{changes}
 use Rattle.xdb_plain.specs.Tables.{TableOps, table_ops}
@@ -28,7 +28,8 @@ fences_in_order =
     ∷ no_step (c1 (opens_span (codes "l3") a_to_z) (reply.Fenced (codes "l1")))
     ∷ [])
     -- an open load, and not one that is installed
-    ∷ case (excise (codes "l2") a_to_z ∷ install (codes "l2") (changes [] [] []) ∷ excise (codes "l1") m_to_t ∷ []) (
+    ∷ case (excise (codes "l2") a_to_z ∷ install (codes "l2") (changes [] [] []) ∷ excise (codes "l1") m_to_t
+    ∷ []) (
     step (c1 (put (codes "n") (codes "1")) (reply.Fenced (codes "l1")))
     ∷ no_step (c1 (put (codes "n") (codes "1")) (reply.Fenced (codes "l2")))
     ∷ step (c1 (put (codes "b") (codes "1")) reply.Done)
@@ -68,7 +69,8 @@ fences_of_spans =
 
 -- a table of b and d, and one of p
 abbrev pub b_to_d_and_p : List TableOps
-b_to_d_and_p = table_with (codes "t") (codes "b" ∷ codes "d" ∷ []) ∷ table_with (codes "u") (codes "p" ∷ []) ∷ []
+b_to_d_and_p =
+    table_with (codes "t") (codes "b" ∷ codes "d" ∷ []) ∷ table_with (codes "u") (codes "p" ∷ []) ∷ []
 
 -- the bounds of each table are fenced
 abbrev pub fences_of_tables : List Case
@@ -89,7 +91,8 @@ fences_of_tables =
     step (c1 (put (codes "c") (codes "1")) (reply.Fenced (codes "l1")))
     ∷ no_step (c1 (put (codes "c") (codes "1")) reply.Done)
     ∷ [])
-    ∷ case (c1 (opens (codes "l1") b_to_d_and_p None) reply.Opening ∷ trying (c1 (opens (codes "l1") b_to_d_and_p None) reply.Fault) (1 ∷ []) ∷ []) (
+    ∷ case (c1 (opens (codes "l1") b_to_d_and_p None) reply.Opening
+    ∷ trying (c1 (opens (codes "l1") b_to_d_and_p None) reply.Fault) (1 ∷ []) ∷ []) (
     step (c1 (put (codes "c") (codes "1")) reply.Done)
     ∷ no_step (c1 (put (codes "c") (codes "1")) (reply.Fenced (codes "l1")))
     ∷ [])
@@ -101,13 +104,21 @@ fences_of_tables =
     ∷ step (c1 (put (codes "r") (codes "1")) reply.Done)
     ∷ [])
     -- the range deletes of a table belong to its bounds
-    ∷ case (load (codes "l1") (table_ops (codes "t") (DelSpan (from_to (codes "h") (codes "k")) ∷ DelSpan c_to_e ∷ []) ∷ []) None) (
+    ∷ case (load (codes "l1") (table_ops (codes "t") (DelSpan (from_to (codes "h") (codes "k"))
+    ∷ DelSpan c_to_e ∷ []) ∷ []) None) (
     step (c1 (put (codes "c") (codes "1")) (reply.Fenced (codes "l1")))
     ∷ step (c1 (put (codes "f") (codes "1")) (reply.Fenced (codes "l1")))
     ∷ no_step (c1 (put (codes "f") (codes "1")) reply.Done)
     ∷ step (c1 (put (codes "k") (codes "1")) reply.Done)
     ∷ [])
     ∷ []
+
+-- a table alone, and two
+abbrev pub only_u : List (List ℕ) → List TableOps
+only_u keys = table_with (codes "u") keys ∷ []
+
+abbrev pub u_and_v : List TableOps
+u_and_v = table_with (codes "u") (codes "p" ∷ []) ∷ table_with (codes "v") (codes "d" ∷ []) ∷ []
 
 -- a load meets the fence of another
 abbrev pub fences_of_loads : List Case
@@ -123,31 +134,56 @@ fences_of_loads =
     ∷ step (c1 (opens_span (codes "l2") (from_to (codes "w") (codes "y"))) (reply.Fenced (codes "l1")))
     ∷ no_step (c1 (opens_span (codes "l2") (from_to (codes "w") (codes "y"))) reply.Opened)
     -- table and span, also where it is the second table
-    ∷ step (c1 (opens (codes "l2") (table_with (codes "u") (codes "d" ∷ []) ∷ []) None) (reply.Fenced (codes "l1")))
-    ∷ no_step (c1 (opens (codes "l2") (table_with (codes "u") (codes "d" ∷ []) ∷ []) None) reply.Opening)
-    ∷ no_step (c1 (opens (codes "l2") (table_with (codes "u") (codes "p" ∷ []) ∷ table_with (codes "v") (codes "d" ∷ []) ∷ []) (Some m_to_t)) reply.Opening)
+    ∷ step (c1 (opens (codes "l2") (only_u (codes "d" ∷ [])) None) (reply.Fenced (codes "l1")))
+    ∷ no_step (c1 (opens (codes "l2") (only_u (codes "d" ∷ [])) None) reply.Opening)
+    ∷ no_step (c1 (opens (codes "l2") u_and_v (Some m_to_t)) reply.Opening)
     -- table and table
-    ∷ step (c1 (opens (codes "l2") (table_with (codes "u") (codes "w" ∷ codes "y" ∷ []) ∷ []) None) (reply.Fenced (codes "l1")))
-    ∷ no_step (c1 (opens (codes "l2") (table_with (codes "u") (codes "w" ∷ codes "y" ∷ []) ∷ []) None) reply.Opening)
-    ∷ step (c1 (opens (codes "l2") (table_with (codes "u") (codes "y" ∷ []) ∷ []) None) reply.Opening)
+    ∷ step (c1 (opens (codes "l2") (only_u (codes "w" ∷ codes "y" ∷ [])) None) (reply.Fenced (codes "l1")))
+    ∷ no_step (c1 (opens (codes "l2") (only_u (codes "w" ∷ codes "y" ∷ [])) None) reply.Opening)
+    ∷ step (c1 (opens (codes "l2") (only_u (codes "y" ∷ [])) None) reply.Opening)
     ∷ [])
     ∷ []
+
+-- tables that meet: t and w, and u and v
+abbrev pub t_to_w : List TableOps
+t_to_w =
+    table_with (codes "t") (codes "a" ∷ codes "c" ∷ [])
+    ∷ table_with (codes "u") (codes "m" ∷ [])
+    ∷ table_with (codes "v") (codes "m" ∷ [])
+    ∷ table_with (codes "w") (codes "b" ∷ [])
+    ∷ []
+
+-- t and each of the others
+abbrev pub t_to_v : List TableOps
+t_to_v =
+    table_with (codes "t") (codes "a" ∷ codes "c" ∷ [])
+    ∷ table_with (codes "u") (codes "c" ∷ [])
+    ∷ table_with (codes "v") (codes "a" ∷ [])
+    ∷ []
+
+abbrev pub t_and_u : List TableOps
+t_and_u = table_with (codes "t") (codes "a" ∷ codes "c" ∷ []) ∷ table_with (codes "u") (codes "b" ∷ []) ∷ []
+
+-- and tables that only touch
+abbrev pub touching : List TableOps
+touching = table_ops (codes "t") (DelSpan a_to_c ∷ []) ∷ table_ops (codes "u") (DelSpan c_to_e ∷ []) ∷ []
 
 -- which pair of tables is named
 abbrev pub overlaps_in_order : List Case
 overlaps_in_order =
     case [] (
     -- the pair whose first is first, though another pair ends before it
-    step (c1 (opens (codes "l") (table_with (codes "t") (codes "a" ∷ codes "c" ∷ []) ∷ table_with (codes "u") (codes "m" ∷ []) ∷ table_with (codes "v") (codes "m" ∷ []) ∷ table_with (codes "w") (codes "b" ∷ []) ∷ []) None) (reply.Overlap (codes "t") (codes "w")))
-    ∷ no_step (c1 (opens (codes "l") (table_with (codes "t") (codes "a" ∷ codes "c" ∷ []) ∷ table_with (codes "u") (codes "m" ∷ []) ∷ table_with (codes "v") (codes "m" ∷ []) ∷ table_with (codes "w") (codes "b" ∷ []) ∷ []) None) (reply.Overlap (codes "u") (codes "v")))
-    ∷ no_step (c1 (opens (codes "l") (table_with (codes "t") (codes "a" ∷ codes "c" ∷ []) ∷ table_with (codes "u") (codes "b" ∷ []) ∷ []) None) (reply.Overlap (codes "v") (codes "u")))
+    step (c1 (opens (codes "l") t_to_w None) (reply.Overlap (codes "t") (codes "w")))
+    ∷ no_step (c1 (opens (codes "l") t_to_w None) (reply.Overlap (codes "u") (codes "v")))
+    ∷ no_step (c1 (opens (codes "l") t_and_u None) (reply.Overlap (codes "v") (codes "u")))
     -- of those the pair whose second is first
-    ∷ step (c1 (opens (codes "l") (table_with (codes "t") (codes "a" ∷ codes "c" ∷ []) ∷ table_with (codes "u") (codes "c" ∷ []) ∷ table_with (codes "v") (codes "a" ∷ []) ∷ []) None) (reply.Overlap (codes "t") (codes "u")))
-    ∷ no_step (c1 (opens (codes "l") (table_with (codes "t") (codes "a" ∷ codes "c" ∷ []) ∷ table_with (codes "u") (codes "c" ∷ []) ∷ table_with (codes "v") (codes "a" ∷ []) ∷ []) None) (reply.Overlap (codes "t") (codes "v")))
+    ∷ step (c1 (opens (codes "l") t_to_v None) (reply.Overlap (codes "t") (codes "u")))
+    ∷ no_step (c1 (opens (codes "l") t_to_v None) (reply.Overlap (codes "t") (codes "v")))
     -- tables that only touch don't meet, and a table may meet the load's own span
-    ∷ step (c1 (opens (codes "l") (table_ops (codes "t") (DelSpan a_to_c ∷ []) ∷ table_ops (codes "u") (DelSpan c_to_e ∷ []) ∷ []) None) reply.Opening)
-    ∷ no_step (c1 (opens (codes "l") (table_ops (codes "t") (DelSpan a_to_c ∷ []) ∷ table_ops (codes "u") (DelSpan c_to_e ∷ []) ∷ []) None) (reply.Overlap (codes "t") (codes "u")))
-    ∷ step (c1 (opens (codes "l") (table_ops (codes "t") (DelSpan a_to_c ∷ []) ∷ []) (Some a_to_z)) reply.Opening)
+    ∷ step (c1 (opens (codes "l") touching None) reply.Opening)
+    ∷ no_step (c1 (opens (codes "l") touching None) (reply.Overlap (codes "t") (codes "u")))
+    ∷ step (c1 (opens (codes "l") (table_ops (codes "t") (DelSpan a_to_c ∷ []) ∷ [])
+    (Some a_to_z)) reply.Opening)
     ∷ [])
     ∷ []
 
@@ -168,7 +204,8 @@ seals_at_openings =
     ∷ case (stored (codes "c" ∷ []) ∷ c1 (opens (codes "l1") b_to_d_and_p None) reply.Opening ∷ []) (
     step (db Seal reply.Nothing) ∷ no_step (db Seal (reply.Group 1)) ∷ [])
     -- its end seals nothing
-    ∷ case (stored (codes "c" ∷ []) ∷ c1 (opens (codes "l1") b_to_d_and_p None) reply.Opening ∷ stored (codes "x" ∷ []) ∷ c1 (opens (codes "l1") b_to_d_and_p None) reply.Opened ∷ []) (
+    ∷ case (stored (codes "c" ∷ []) ∷ c1 (opens (codes "l1") b_to_d_and_p None) reply.Opening
+    ∷ stored (codes "x" ∷ []) ∷ c1 (opens (codes "l1") b_to_d_and_p None) reply.Opened ∷ []) (
     step (db Seal (reply.Group 2)) ∷ no_step (db Seal reply.Nothing) ∷ [])
     -- not for operations beside the fence
     ∷ case (stored (codes "m" ∷ []) ∷ excise (codes "l1") a_to_m ∷ []) (
@@ -178,12 +215,14 @@ seals_at_openings =
     ∷ no_step (db FlushTake (reply.Job 1))
     ∷ [])
     -- not for those of groups that are sealed already
-    ∷ case (stored (codes "b" ∷ []) ∷ db Seal (reply.Group 1) ∷ stored (codes "x" ∷ []) ∷ excise (codes "l1") a_to_m ∷ []) (
+    ∷ case (stored (codes "b" ∷ []) ∷ db Seal (reply.Group 1) ∷ stored (codes "x" ∷ [])
+    ∷ excise (codes "l1") a_to_m ∷ []) (
     step (db Seal (reply.Group 2)) ∷ no_step (db Seal reply.Nothing) ∷ [])
     -- not where the opening is refused
     ∷ case (stored (codes "b" ∷ []) ∷ c1 (opens_span (codes "l1") a_to_m) reply.Memory ∷ []) (
     step (db Seal (reply.Group 1)) ∷ no_step (db Seal reply.Nothing) ∷ [])
-    ∷ case (excise (codes "l1") c_to_e ∷ stored (codes "b" ∷ []) ∷ c1 (opens_span (codes "l2") a_to_m) (reply.Fenced (codes "l1")) ∷ []) (
+    ∷ case (excise (codes "l1") c_to_e ∷ stored (codes "b" ∷ [])
+    ∷ c1 (opens_span (codes "l2") a_to_m) (reply.Fenced (codes "l1")) ∷ []) (
     step (db Seal (reply.Group 1)) ∷ no_step (db Seal reply.Nothing) ∷ [])
     ∷ []
 
@@ -191,7 +230,8 @@ seals_at_openings =
 abbrev pub waits_for_groups : List Case
 waits_for_groups =
     -- the first that touches the fence
-    case (stored (codes "x" ∷ []) ∷ db Seal (reply.Group 1) ∷ stored (codes "y" ∷ codes "b" ∷ []) ∷ db Seal (reply.Group 2) ∷ stored (codes "b" ∷ []) ∷ excise (codes "l1") a_to_m ∷ []) (
+    case (stored (codes "x" ∷ []) ∷ db Seal (reply.Group 1) ∷ stored (codes "y" ∷ codes "b" ∷ [])
+    ∷ db Seal (reply.Group 2) ∷ stored (codes "b" ∷ []) ∷ excise (codes "l1") a_to_m ∷ []) (
     step (c1 (Install (codes "l1")) (reply.Waits 2))
     ∷ no_step (c1 (Install (codes "l1")) (reply.Waits 1))
     ∷ no_step (c1 (Install (codes "l1")) (reply.Waits 3))
@@ -204,20 +244,26 @@ waits_for_groups =
     ∷ case (stored (codes "c" ∷ []) ∷ load (codes "l1") b_to_d_and_p (Some m_to_t)) (
     step (c1 (Install (codes "l1")) (reply.Waits 1)) ∷ no_step (c1 (Install (codes "l1")) reply.Fault) ∷ [])
     -- a group waits no longer once it is flushed
-    ∷ case (stored (codes "b" ∷ []) ∷ flushed 1 1 (file_table 1 (from_upto (codes "b") (codes "b")) 1 1 85) ++ excise (codes "l1") (from_to (codes "A") (codes "z")) ∷ []) (
-    step (install (codes "l1") (changes ((0, 1) ∷ []) [] [])) ∷ no_step (c1 (Install (codes "l1")) (reply.Waits 1)) ∷ [])
+    ∷ case (stored (codes "b" ∷ []) ∷ flushed 1 1 (file_table 1 (from_upto (codes "b") (codes "b")) 1 1 85)
+    ++ excise (codes "l1") (from_to (codes "A") (codes "z")) ∷ []) (
+    step (install (codes "l1") (changes ((0, 1) ∷ []) [] []))
+    ∷ no_step (c1 (Install (codes "l1")) (reply.Waits 1)) ∷ [])
     -- the oldest is flushed, and the others wait on
-    ∷ case (stored (codes "b" ∷ []) ∷ db Seal (reply.Group 1) ∷ stored (codes "b" ∷ []) ∷ excise (codes "l1") a_to_m
+    ∷ case (stored (codes "b" ∷ []) ∷ db Seal (reply.Group 1) ∷ stored (codes "b" ∷ [])
+    ∷ excise (codes "l1") a_to_m
     ∷ db FlushTake (reply.Job 1) ∷ put_flush 1 (table_of_key 1 (codes "b") 1) ∷ []) (
-    step (c1 (Install (codes "l1")) (reply.Waits 2)) ∷ no_step (install (codes "l1") (changes ((0, 1) ∷ []) [] [])) ∷ [])
-    ∷ case (stored (codes "b" ∷ []) ∷ db Seal (reply.Group 1) ∷ stored (codes "x" ∷ []) ∷ db Seal (reply.Group 2) ∷ excise (codes "l1") a_to_m
+    step (c1 (Install (codes "l1")) (reply.Waits 2))
+    ∷ no_step (install (codes "l1") (changes ((0, 1) ∷ []) [] [])) ∷ [])
+    ∷ case (stored (codes "b" ∷ []) ∷ db Seal (reply.Group 1) ∷ stored (codes "x" ∷ [])
+    ∷ db Seal (reply.Group 2) ∷ excise (codes "l1") a_to_m
     ∷ db FlushTake (reply.Job 1) ∷ put_flush 1 (table_of_key 1 (codes "b") 1) ∷ []) (
     step (install (codes "l1") (changes ((0, 1) ∷ []) [] []))
     ∷ no_step (c1 (Install (codes "l1")) (reply.Waits 1))
     ∷ no_step (c1 (Install (codes "l1")) (reply.Waits 2))
     ∷ [])
     -- one whose flush failed does so too
-    ∷ case (stored (codes "b" ∷ []) ∷ excise (codes "l1") a_to_m ∷ db FlushTake (reply.Job 1) ∷ db (Build 1) reply.Fault ∷ []) (
+    ∷ case (stored (codes "b" ∷ []) ∷ excise (codes "l1") a_to_m ∷ db FlushTake (reply.Job 1)
+    ∷ db (Build 1) reply.Fault ∷ []) (
     step (c1 (Install (codes "l1")) (reply.Waits 1)) ∷ no_step (install (codes "l1") (changes [] [] [])) ∷ [])
     ∷ []
 
@@ -251,14 +297,16 @@ names_of_loads =
     ∷ no_step (c1 (opens (codes "l1") b_to_d_and_p (Some m_to_t)) reply.Opened)
     ∷ no_step (c1 (opens (codes "l1") [] None) reply.Opened)
     ∷ [])
-    ∷ case (c1 (opens (codes "l1") b_to_d_and_p None) reply.Opening ∷ c1 (opens (codes "l1") b_to_d_and_p None) reply.Memory ∷ []) (
+    ∷ case (c1 (opens (codes "l1") b_to_d_and_p None) reply.Opening
+    ∷ c1 (opens (codes "l1") b_to_d_and_p None) reply.Memory ∷ []) (
     step (c1 (opens_span (codes "l1") m_to_t) reply.Opened)
     ∷ no_step (c1 (opens_span (codes "l1") m_to_t) reply.NameInUse)
     ∷ step (c1 (Install (codes "l1")) reply.NoSuch)
     ∷ step (c1 (LoadKept (codes "l1")) reply.NoSuch)
     ∷ [])
     -- one load comes on, and not another
-    ∷ case (c1 (opens (codes "l1") b_to_d_and_p None) reply.Opening ∷ c1 (opens (codes "l2") (table_with (codes "v") (codes "x" ∷ []) ∷ []) None) reply.Opening
+    ∷ case (c1 (opens (codes "l1") b_to_d_and_p None) reply.Opening
+    ∷ c1 (opens (codes "l2") (table_with (codes "v") (codes "x" ∷ []) ∷ []) None) reply.Opening
     ∷ c1 (opens (codes "l1") b_to_d_and_p None) reply.Opened ∷ []) (
     step (c1 (Install (codes "l2")) reply.NotYet)
     ∷ no_step (install (codes "l2") (changes [] (3 ∷ []) ((6, loaded_key 3 (codes "x") 1) ∷ [])))
@@ -267,13 +315,16 @@ names_of_loads =
     ∷ no_step (c1 (LoadKept (codes "l1")) reply.NotYet)
     ∷ no_step (c1 (Install (codes "l1")) reply.NotYet)
     ∷ [])
-    ∷ case (excise (codes "l1") a_to_c ∷ excise (codes "l2") m_to_t ∷ install (codes "l1") (changes [] [] []) ∷ []) (
+    ∷ case (excise (codes "l1") a_to_c ∷ excise (codes "l2") m_to_t ∷ install (codes "l1") (changes [] [] [])
+    ∷ []) (
     step (c1 (put (codes "b") (codes "1")) reply.Done)
     ∷ step (c1 (put (codes "n") (codes "1")) (reply.Fenced (codes "l2")))
     ∷ no_step (c1 (put (codes "n") (codes "1")) reply.Done)
     ∷ [])
     -- a failed opening takes no other load with it
-    ∷ case (excise (codes "l2") (from_to (codes "t") (codes "v")) ∷ c1 (opens (codes "l1") b_to_d_and_p None) reply.Opening ∷ c1 (opens (codes "l1") b_to_d_and_p None) reply.Memory ∷ []) (
+    ∷ case (excise (codes "l2") (from_to (codes "t") (codes "v"))
+    ∷ c1 (opens (codes "l1") b_to_d_and_p None) reply.Opening
+    ∷ c1 (opens (codes "l1") b_to_d_and_p None) reply.Memory ∷ []) (
     step (c1 (opens_span (codes "l2") a_to_m) reply.NameInUse)
     ∷ no_step (c1 (opens_span (codes "l2") a_to_m) reply.Opened)
     ∷ step (c1 (put (codes "u") (codes "1")) (reply.Fenced (codes "l2")))

@@ -16,6 +16,9 @@ use Rattle.xdb_rows.specs.Tables.Small.{a_to_m, stored, table_with, opens, opens
 abbrev pub x_to_y : Act
 x_to_y = opens_span (codes "l") (from_to (codes "x") (codes "y"))
 
+abbrev pub opens_k : Act
+opens_k = opens (codes "k") (table_with (codes "t") (codes "w" ∷ []) ∷ []) None
+
 -- 16 loads
 abbrev pub limit_of_loads : List Case
 limit_of_loads =
@@ -25,13 +28,13 @@ limit_of_loads =
     ∷ case (many_loads 16 ++ install (nth_name 16) (changes [] [] []) ∷ []) (
     step (c1 x_to_y reply.Opened) ∷ no_step (c1 x_to_y reply.TooMany) ∷ [])
     -- one that is being opened is
-    ∷ case (many_loads 15 ++ c1 (opens (codes "k") (table_with (codes "t") (codes "w" ∷ []) ∷ []) None) reply.Opening ∷ []) (
+    ∷ case (many_loads 15 ++ c1 opens_k reply.Opening ∷ []) (
     step (c1 x_to_y reply.TooMany)
     ∷ no_step (c1 x_to_y reply.Opened)
-    ∷ step (c1 (opens (codes "k") (table_with (codes "t") (codes "w" ∷ []) ∷ []) None) reply.Opened)
+    ∷ step (c1 opens_k reply.Opened)
     ∷ [])
     -- until that fails
-    ∷ case (many_loads 15 ++ c1 (opens (codes "k") (table_with (codes "t") (codes "w" ∷ []) ∷ []) None) reply.Opening ∷ c1 (opens (codes "k") (table_with (codes "t") (codes "w" ∷ []) ∷ []) None) reply.Fault ∷ []) (
+    ∷ case (many_loads 15 ++ c1 opens_k reply.Opening ∷ c1 opens_k reply.Fault ∷ []) (
     step (c1 x_to_y reply.Opened) ∷ no_step (c1 x_to_y reply.TooMany) ∷ [])
     ∷ []
 
@@ -46,7 +49,8 @@ limit_of_snapshots =
     ∷ case (many_snaps 64) (
     step (c1 snap_s reply.TooMany) ∷ no_step (holding (c1 snap_s reply.FileOnly) (Hold 65 0 ∷ [])) ∷ [])
     -- pinned ones count
-    ∷ case (many_snaps 63 ++ stored (codes "b" ∷ []) ∷ c1 (Snap (codes "p") (a_to_m ∷ [])) (reply.Pinned 1) ∷ []) (
+    ∷ case (many_snaps 63 ++ stored (codes "b" ∷ []) ∷ c1 (Snap (codes "p") (a_to_m ∷ [])) (reply.Pinned 1)
+    ∷ []) (
     step (c1 snap_s reply.TooMany) ∷ no_step (c1 snap_s (reply.Pinned 1)) ∷ [])
     -- one that is dropped makes room
     ∷ case (many_snaps 64 ++ let_go (Drop (nth_name 7)) reply.Dropped 7 ∷ []) (
@@ -77,7 +81,8 @@ limit_of_cursors =
 abbrev pub limit_of_questions : List Case
 limit_of_questions =
     case (many_questions 63) (
-    step (ask_held 64 (get (codes "a")) true (Hold 64 0)) ∷ no_step (ask_refused (get (codes "a")) reply.TooMany) ∷ [])
+    step (ask_held 64 (get (codes "a")) true (Hold 64 0))
+    ∷ no_step (ask_refused (get (codes "a")) reply.TooMany) ∷ [])
     ∷ case (many_questions 64) (
     step (ask_refused (get (codes "a")) reply.TooMany)
     ∷ no_step (ask_held 65 (get (codes "a")) true (Hold 65 0))
@@ -93,7 +98,8 @@ limit_of_questions =
 
 -- the keys a to e, each in a table of a load
 abbrev pub five_tables : List TableOps
-five_tables = map (λ k. table_with k (k ∷ [])) (codes "a" ∷ codes "c" ∷ codes "e" ∷ codes "g" ∷ codes "i" ∷ [])
+five_tables =
+    map (λ k. table_with k (k ∷ [])) (codes "a" ∷ codes "c" ∷ codes "e" ∷ codes "g" ∷ codes "i" ∷ [])
 
 -- the tables of the load, from a number on, in a level
 abbrev pub five_loaded : ℕ → ℕ → ℕ → List (ℕ × Table)
@@ -122,10 +128,23 @@ abbrev pub no_compact : List ℕ → Note
 no_compact key = db (CompactTake (At 5 (from_upto key key))) reply.Nothing
 
 abbrev pub three_compactions : List Note
-three_compactions = five_in_l5 ++ compact_key (codes "a") 1 ∷ compact_key (codes "c") 2 ∷ compact_key (codes "e") 3 ∷ []
+three_compactions =
+    five_in_l5 ++ compact_key (codes "a") 1 ∷ compact_key (codes "c") 2 ∷ compact_key (codes "e") 3 ∷ []
 
 abbrev pub four_compactions : List Note
 four_compactions = three_compactions ++ compact_key (codes "g") 4 ∷ []
+
+-- the table of c is cut out
+abbrev pub cancelled_c : List Note
+cancelled_c =
+    excise (codes "l3") (from_upto (codes "c") (codes "c"))
+    ∷ install (codes "l3") (changes ((5, 7) ∷ (6, 2) ∷ []) [] [])
+    ∷ []
+
+-- a compaction of i that begins in the version behind that
+abbrev pub compact_i_later : Note
+compact_i_later =
+    holding (db (CompactTake (At 5 (from_upto (codes "i") (codes "i")))) (reply.Job 5)) (Hold 5 3 ∷ [])
 
 -- 4 compactions
 abbrev pub limit_of_compactions : List Case
@@ -137,7 +156,8 @@ limit_of_compactions =
 -- a flush isn't a compaction, and begins beside four
 abbrev pub flushes_beside_compactions : List Case
 flushes_beside_compactions =
-    case (three_compactions ++ stored (codes "x" ∷ []) ∷ db Seal (reply.Group 1) ∷ db FlushTake (reply.Job 4) ∷ []) (
+    case (three_compactions ++ stored (codes "x" ∷ []) ∷ db Seal (reply.Group 1) ∷ db FlushTake (reply.Job 4)
+    ∷ []) (
     step (compact_key (codes "g") 5) ∷ no_step (no_compact (codes "g")) ∷ [])
     ∷ case (four_compactions ++ stored (codes "x" ∷ []) ∷ db Seal (reply.Group 1) ∷ []) (
     step (db FlushTake (reply.Job 5)) ∷ no_step (db FlushTake reply.Nothing) ∷ [])
@@ -157,8 +177,10 @@ room_after_compactions =
     ∷ [])
     -- one that isn't put yet doesn't
     ∷ case (four_compactions ++ db (Put 2) reply.NotYet ∷ []) (step (no_compact (codes "i")) ∷ [])
-    ∷ case (four_compactions ++ holding (changing (db (Put 2) reply.Installed) (changes ((5, 7) ∷ (6, 2) ∷ []) (75 ∷ []) ((6, loaded_key 75 (codes "c") 2) ∷ []))) (Release 2 ∷ []) ∷ []) (
-    step (holding (db (CompactTake (At 5 (from_upto (codes "i") (codes "i")))) (reply.Job 5)) (Hold 5 3 ∷ []))
+    ∷ case (four_compactions
+    ++ holding (changing (db (Put 2) reply.Installed) (changes ((5, 7)
+    ∷ (6, 2) ∷ []) (75 ∷ []) ((6, loaded_key 75 (codes "c") 2) ∷ []))) (Release 2 ∷ []) ∷ []) (
+    step compact_i_later
     ∷ no_step (no_compact (codes "i"))
     ∷ [])
     ∷ []
@@ -166,12 +188,13 @@ room_after_compactions =
 -- one that is cancelled counts until it is put
 abbrev pub room_after_cancelling : List Case
 room_after_cancelling =
-    case (four_compactions ++ excise (codes "l3") (from_upto (codes "c") (codes "c")) ∷ install (codes "l3") (changes ((5, 7) ∷ (6, 2) ∷ []) [] []) ∷ []) (
+    case (four_compactions ++ cancelled_c) (
     step (no_compact (codes "i"))
-    ∷ no_step (holding (db (CompactTake (At 5 (from_upto (codes "i") (codes "i")))) (reply.Job 5)) (Hold 5 3 ∷ []))
+    ∷ no_step compact_i_later
     ∷ [])
-    ∷ case (four_compactions ++ excise (codes "l3") (from_upto (codes "c") (codes "c")) ∷ install (codes "l3") (changes ((5, 7) ∷ (6, 2) ∷ []) [] []) ∷ holding (db (Put 2) (reply.Cancelled (codes "l3"))) (Release 2 ∷ []) ∷ []) (
-    step (holding (db (CompactTake (At 5 (from_upto (codes "i") (codes "i")))) (reply.Job 5)) (Hold 5 3 ∷ []))
+    ∷ case (four_compactions ++ cancelled_c
+    ++ holding (db (Put 2) (reply.Cancelled (codes "l3"))) (Release 2 ∷ []) ∷ []) (
+    step compact_i_later
     ∷ no_step (no_compact (codes "i"))
     ∷ [])
     ∷ []

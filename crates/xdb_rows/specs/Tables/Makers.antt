@@ -16,7 +16,12 @@ use Rattle.xdb_rows.specs.Tables.Small.{a_to_c, a_to_m, m_to_t, sets, stored, op
 
 -- a client's act is no other's, and the owner's act is no client's
 abbrev pub by_client : Act → Reply → List Next
-by_client a r = step (note (Client 2) a r) ∷ no_step (note Db a r) ∷ no_step (note (Client 0) a r) ∷ no_step (note (Client 17) a r) ∷ []
+by_client a r =
+    step (note (Client 2) a r)
+    ∷ no_step (note Db a r)
+    ∷ no_step (note (Client 0) a r)
+    ∷ no_step (note (Client 17) a r)
+    ∷ []
 
 abbrev pub by_owner : Act → Reply → List Next
 by_owner a r = step (note Db a r) ∷ no_step (note (Client 1) a r) ∷ []
@@ -71,6 +76,7 @@ makers_of_names =
     ∷ step (note (Client 2) (Status (codes "s") status_form.Await) reply.FileOnly)
     ∷ step (record (note (Client 2) (Drop (codes "s")) reply.Dropped) { holds = Release 1 ∷ [] })
     ∷ step (record (note (Client 2) (Shut (codes "k")) reply.Shut) { holds = Release 2 ∷ [] })
-    ∷ step (record (note (Client 2) (Ask 1 (get_at (codes "a") (codes "s")) true) (reply.Asked 1)) { holds = Hold 3 0 ∷ [] })
+    ∷ step (record (note (Client 2) (Ask 1 (get_at (codes "a") (codes "s")) true)
+    (reply.Asked 1)) { holds = Hold 3 0 ∷ [] })
     ∷ [])
     ∷ []

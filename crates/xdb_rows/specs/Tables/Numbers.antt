@@ -47,7 +47,8 @@ numbers_of_commits =
     -- file numbers are nothing to a commit
     ∷ case_from 1 end [] (step (c1 (sets one_key) reply.Done) ∷ no_step (c1 (sets one_key) reply.Spent) ∷ [])
     -- one that is refused takes none
-    ∷ case_from (end - 2) 1 (excise (codes "l1") m_to_t ∷ c1 (put (codes "n") (codes "1")) (reply.Fenced (codes "l1")) ∷ c1 (sets one_key) reply.Memory ∷ []) (
+    ∷ case_from (end - 2) 1 (excise (codes "l1") m_to_t
+    ∷ c1 (put (codes "n") (codes "1")) (reply.Fenced (codes "l1")) ∷ c1 (sets one_key) reply.Memory ∷ []) (
     step (c1 (sets two_keys) reply.Done) ∷ [])
     ∷ []
 
@@ -63,10 +64,12 @@ numbers_kept_back =
     -- from the beginning of the opening on, until it fails
     ∷ case_from (end - 1) 1 (c1 (opens (codes "l1") (table_x ∷ []) None) reply.Opening ∷ []) (
     step (c1 (sets one_key) reply.Spent) ∷ no_step (c1 (sets one_key) reply.Done) ∷ [])
-    ∷ case_from (end - 1) 1 (c1 (opens (codes "l1") (table_x ∷ []) None) reply.Opening ∷ c1 (opens (codes "l1") (table_x ∷ []) None) reply.Memory ∷ []) (
+    ∷ case_from (end - 1) 1 (c1 (opens (codes "l1") (table_x ∷ []) None) reply.Opening
+    ∷ c1 (opens (codes "l1") (table_x ∷ []) None) reply.Memory ∷ []) (
     step (c1 (sets one_key) reply.Done) ∷ no_step (c1 (sets one_key) reply.Spent) ∷ [])
     -- one for each load
-    ∷ case_from (end - 3) 1 (load (codes "l1") (table_x ∷ []) None ++ load (codes "l2") (table_y ∷ []) (Some m_to_t)) (
+    ∷ case_from (end - 3) 1 (load (codes "l1") (table_x ∷ []) None
+    ++ load (codes "l2") (table_y ∷ []) (Some m_to_t)) (
     step (c1 (sets one_key) reply.Done)
     ∷ step (c1 (sets two_keys) reply.Spent)
     ∷ no_step (c1 (sets two_keys) reply.Done)
@@ -106,7 +109,8 @@ numbers_of_openings =
 abbrev pub numbers_of_installs : List Case
 numbers_of_installs =
     case_from (end - 2) 1 (load (codes "l1") (table_x ∷ table_y ∷ []) None
-    ++ install (codes "l1") (changes [] (1 ∷ 2 ∷ []) ((6, loaded_key 1 (codes "x") (end - 2)) ∷ (6, loaded_key 2 (codes "y") (end - 2)) ∷ [])) ∷ []) (
+    ++ install (codes "l1") (changes [] (1 ∷ 2 ∷ []) ((6, loaded_key 1 (codes "x") (end - 2))
+    ∷ (6, loaded_key 2 (codes "y") (end - 2)) ∷ [])) ∷ []) (
     step (c1 (sets one_key) reply.Done)
     ∷ no_step (c1 (sets one_key) reply.Spent)
     ∷ step (c1 (sets two_keys) reply.Spent)
@@ -204,7 +208,8 @@ files_of_loads =
     ∷ no_step (c1 (opens_span (codes "l1") m_to_t) reply.Spent)
     ∷ [])
     -- it takes them as it begins, and not as it ends or is installed
-    ∷ case_from 1 (end - 2) (sealed ++ c1 (opens (codes "l1") (table_x ∷ table_y ∷ []) None) reply.Opening ∷ []) (
+    ∷ case_from 1 (end - 2) (sealed ++ c1 (opens (codes "l1") (table_x ∷ table_y ∷ []) None) reply.Opening
+    ∷ []) (
     step (db FlushTake reply.Spent) ∷ no_step (db FlushTake (reply.Job 1)) ∷ [])
     ∷ case_from 1 (end - 3) (sealed ++ load (codes "l1") (table_x ∷ table_y ∷ []) None) (
     step (db FlushTake (reply.Job 1)) ∷ no_step (db FlushTake reply.Spent) ∷ [])
@@ -212,7 +217,8 @@ files_of_loads =
     ++ install (codes "l1") (changes [] ((end - 2) ∷ []) ((6, loaded_key (end - 2) (codes "x") 2) ∷ [])) ∷ []) (
     step (db FlushTake (reply.Job 1)) ∷ no_step (db FlushTake reply.Spent) ∷ [])
     -- it keeps them though it fails
-    ∷ case_from 1 (end - 1) (sealed ++ c1 (opens (codes "l1") (table_x ∷ []) None) reply.Opening ∷ c1 (opens (codes "l1") (table_x ∷ []) None) reply.Fault ∷ []) (
+    ∷ case_from 1 (end - 1) (sealed ++ c1 (opens (codes "l1") (table_x ∷ []) None) reply.Opening
+    ∷ c1 (opens (codes "l1") (table_x ∷ []) None) reply.Fault ∷ []) (
     step (db FlushTake reply.Spent) ∷ no_step (db FlushTake (reply.Job 1)) ∷ [])
     ∷ []
 
@@ -222,7 +228,8 @@ a_and_z_at num = file_table num (from_upto (codes "a") (codes "z")) 1 2 90
 
 abbrev pub to_halve : ℕ → Table → List Note
 to_halve num t =
-    stored (codes "a" ∷ codes "z" ∷ []) ∷ flushed 1 1 t ++ stored (codes "y" ∷ []) ∷ db Seal (reply.Group 2) ∷ excise (codes "l1") (from_to (codes "b") (codes "c")) ∷ []
+    stored (codes "a" ∷ codes "z" ∷ []) ∷ flushed 1 1 t ++ stored (codes "y" ∷ []) ∷ db Seal (reply.Group 2)
+    ∷ excise (codes "l1") (from_to (codes "b") (codes "c")) ∷ []
 
 abbrev pub left_half : ℕ → ℕ → Table
 left_half num half = half_of (a_and_z_at num) half (from_upto (codes "a") (codes "a"))
@@ -243,32 +250,40 @@ abbrev pub files_of_halves : List Case
 files_of_halves =
     -- there are two for two halves
     case_from 1 (end - 3) (to_halve (end - 3) (a_and_z_at (end - 3))) (
-    step (install (codes "l1") (changes ((0, end - 3) ∷ []) [] ((0, left_half (end - 3) (end - 2)) ∷ (0, right_half (end - 3) (end - 1)) ∷ [])))
+    step (install (codes "l1") (changes ((0, end - 3) ∷ []) [] ((0, left_half (end - 3) (end - 2))
+    ∷ (0, right_half (end - 3) (end - 1)) ∷ [])))
     ∷ no_step (c1 (Install (codes "l1")) reply.Spent)
     ∷ [])
     -- there is one, which serves where the work finds but one half
     ∷ case_from 1 (end - 2) (to_halve (end - 2) (a_and_z_at (end - 2))) (
     step (c1 (Install (codes "l1")) reply.Spent)
     ∷ step (install (codes "l1") (changes ((0, end - 2) ∷ []) [] ((0, right_half (end - 2) (end - 1)) ∷ [])))
-    ∷ no_step (install (codes "l1") (changes ((0, end - 2) ∷ []) [] ((0, left_half (end - 2) (end - 1)) ∷ (0, right_half (end - 2) end) ∷ [])))
+    ∷ no_step (install (codes "l1") (changes ((0, end - 2) ∷ []) [] ((0, left_half (end - 2) (end - 1))
+    ∷ (0, right_half (end - 2) end) ∷ [])))
     ∷ [])
     -- they are taken
     ∷ case_from 1 (end - 3) (to_halve (end - 3) (a_and_z_at (end - 3))
-    ++ install (codes "l1") (changes ((0, end - 3) ∷ []) [] ((0, left_half (end - 3) (end - 2)) ∷ (0, right_half (end - 3) (end - 1)) ∷ [])) ∷ []) (
+    ++ install (codes "l1") (changes ((0, end - 3) ∷ []) [] ((0, left_half (end - 3) (end - 2))
+    ∷ (0, right_half (end - 3) (end - 1)) ∷ [])) ∷ []) (
     step (db FlushTake reply.Spent) ∷ no_step (db FlushTake (reply.Job 2)) ∷ [])
     ∷ case_from 1 (end - 3) (to_halve (end - 3) (a_and_z_at (end - 3))
     ++ install (codes "l1") (changes ((0, end - 3) ∷ []) [] ((0, left_half (end - 3) (end - 2)) ∷ [])) ∷ []) (
     step (db FlushTake (reply.Job 2)) ∷ no_step (db FlushTake reply.Spent) ∷ [])
     -- a table that reaches beyond the span on one side has one at most, and one inside it has none
-    ∷ case_from 1 (end - 2) (to_halve (end - 2) (file_table (end - 2) (from_to (codes "b") (codes "zz")) 1 2 90)) (
+    ∷ case_from 1 (end - 2) (to_halve (end - 2)
+    (file_table (end - 2) (from_to (codes "b") (codes "zz")) 1 2 90)) (
     no_step (c1 (Install (codes "l1")) reply.Spent) ∷ [])
-    ∷ case_from 1 (end - 1) (to_halve (end - 1) (file_table (end - 1) (from_to (codes "b") (codes "zz")) 1 2 90)) (
+    ∷ case_from 1 (end - 1) (to_halve (end - 1)
+    (file_table (end - 1) (from_to (codes "b") (codes "zz")) 1 2 90)) (
     step (c1 (Install (codes "l1")) reply.Spent) ∷ [])
-    ∷ case_from 1 (end - 2) (to_halve (end - 2) (file_table (end - 2) (from_to (codes "a") (codes "c")) 1 2 90)) (
+    ∷ case_from 1 (end - 2) (to_halve (end - 2)
+    (file_table (end - 2) (from_to (codes "a") (codes "c")) 1 2 90)) (
     no_step (c1 (Install (codes "l1")) reply.Spent) ∷ [])
-    ∷ case_from 1 (end - 1) (to_halve (end - 1) (file_table (end - 1) (from_to (codes "a") (codes "c")) 1 2 90)) (
+    ∷ case_from 1 (end - 1) (to_halve (end - 1)
+    (file_table (end - 1) (from_to (codes "a") (codes "c")) 1 2 90)) (
     step (c1 (Install (codes "l1")) reply.Spent) ∷ [])
-    ∷ case_from 1 (end - 1) (to_halve (end - 1) (file_table (end - 1) (from_to (codes "b") (codes "c")) 1 2 90)) (
+    ∷ case_from 1 (end - 1) (to_halve (end - 1)
+    (file_table (end - 1) (from_to (codes "b") (codes "c")) 1 2 90)) (
     no_step (c1 (Install (codes "l1")) reply.Spent)
     ∷ step (install (codes "l1") (changes ((0, end - 1) ∷ []) [] []))
     ∷ [])
@@ -278,7 +293,8 @@ files_of_halves =
     ∷ case_from 1 (end - 3) (two_to_halve (end - 3)) (
     step (c1 (Install (codes "l1")) reply.Spent) ∷ [])
     -- one beside it has none
-    ∷ case_from 1 (end - 1) (to_halve (end - 1) (file_table (end - 1) (from_to (codes "c") (codes "zz")) 1 2 90)) (
+    ∷ case_from 1 (end - 1) (to_halve (end - 1)
+    (file_table (end - 1) (from_to (codes "c") (codes "zz")) 1 2 90)) (
     no_step (c1 (Install (codes "l1")) reply.Spent)
     ∷ step (install (codes "l1") (changes [] [] []))
     ∷ [])

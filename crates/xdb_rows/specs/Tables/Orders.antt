@@ -1,6 +1,7 @@
 -- Which of two replies comes first where both would stand.
 use Rattle.std.specs.Prelude.{ℕ, map, ◌-◌, ◌^◌, true, false, List, [], ◌∷◌, ◌++◌, None, Some, codes}
 use Rattle.xdb_edit.specs.Changes.{changes}
+use Rattle.xdb_plain.specs.Tables.{TableOps}
 use Rattle.xdb_plain.specs.declared.act.Act.TheVariants.{Seal, FlushTake, CompactTake, Put, Build, Work, Install, Snap, Cursor, Shut, Ask, Settle, Show}
 use Rattle.xdb_plain.specs.declared.act.ShowWhat.TheVariants as show
 use Rattle.xdb_plain.specs.declared.act.Which.TheVariants.{Auto}
@@ -8,6 +9,7 @@ use Rattle.xdb_plain.specs.declared.note.HoldNote.TheVariants.{Hold, Release}
 use Rattle.xdb_plain.specs.declared.note.Note.{Note}
 use Rattle.xdb_plain.specs.declared.question.Question.TheVariants.{Move}
 use Rattle.xdb_plain.specs.declared.question.Step.TheVariants.{First}
+use Rattle.xdb_plain.specs.declared.reply.Reply.{Reply}
 use Rattle.xdb_plain.specs.declared.reply.Reply.TheVariants as reply
 use Rattle.xdb_rows.specs.Judged.{Case, Next, case, case_from, step, no_step}
 use Rattle.xdb_rows.specs.Notes.{c1, c2, db, holding, from_to, from_upto, file_table, put, get, get_at, scan, excise, install, flushed, compact_l0, let_go, ask_held, ask_refused}
@@ -77,6 +79,19 @@ orders_of_puts =
     ∷ [])
     ∷ []
 
+-- tables alone, and tables that meet
+abbrev pub only_x : List TableOps
+only_x = table_with (codes "t") (codes "x" ∷ []) ∷ []
+
+abbrev pub both_x : List TableOps
+both_x = table_with (codes "t") (codes "x" ∷ []) ∷ table_with (codes "u") (codes "x" ∷ []) ∷ []
+
+abbrev pub only_t : List TableOps
+only_t = table_with (codes "t") a_and_d ∷ []
+
+abbrev pub t_over_u : List TableOps
+t_over_u = table_with (codes "t") a_and_d ∷ table_with (codes "u") (codes "b" ∷ []) ∷ []
+
 -- openings of loads
 abbrev pub orders_of_openings : List Case
 orders_of_openings =
@@ -86,26 +101,27 @@ orders_of_openings =
     ∷ no_step (c1 (opens (codes "l1") [] None) reply.Nothing)
     ∷ no_step (c1 (opens_span (codes "l1") a_to_m) (reply.Fenced (codes "l1")))
     ∷ no_step (c1 (opens_span (codes "l1") a_to_m) reply.Memory)
-    ∷ no_step (c1 (opens (codes "l1") (table_with (codes "t") (codes "x" ∷ []) ∷ []) None) reply.Spent)
-    ∷ no_step (c1 (opens (codes "l1") (table_with (codes "t") (codes "x" ∷ []) ∷ table_with (codes "u") (codes "x" ∷ []) ∷ []) None) (reply.Overlap (codes "t") (codes "u")))
+    ∷ no_step (c1 (opens (codes "l1") only_x None) reply.Spent)
+    ∷ no_step (c1 (opens (codes "l1") both_x None) (reply.Overlap (codes "t") (codes "u")))
     ∷ [])
     -- nothing to load before the want of memory
     ∷ case [] (
-    step (c1 (opens (codes "l1") [] None) reply.Nothing) ∷ no_step (c1 (opens (codes "l1") [] None) reply.Memory) ∷ [])
+    step (c1 (opens (codes "l1") [] None) reply.Nothing)
+    ∷ no_step (c1 (opens (codes "l1") [] None) reply.Memory) ∷ [])
     -- tables that meet before a fence, and a fence before the want of numbers
     ∷ case_from (2 ^ 56) 1 (fenced_a_to_m ∷ []) (
-    step (c1 (opens (codes "l2") (table_with (codes "t") a_and_d ∷ table_with (codes "u") (codes "b" ∷ []) ∷ []) None) (reply.Overlap (codes "t") (codes "u")))
-    ∷ no_step (c1 (opens (codes "l2") (table_with (codes "t") a_and_d ∷ table_with (codes "u") (codes "b" ∷ []) ∷ []) None) (reply.Fenced (codes "l1")))
-    ∷ no_step (c1 (opens (codes "l2") (table_with (codes "t") (codes "x" ∷ []) ∷ table_with (codes "u") (codes "x" ∷ []) ∷ []) None) reply.Spent)
-    ∷ step (c1 (opens (codes "l2") (table_with (codes "t") a_and_d ∷ []) None) (reply.Fenced (codes "l1")))
-    ∷ no_step (c1 (opens (codes "l2") (table_with (codes "t") a_and_d ∷ []) None) reply.Spent)
-    ∷ step (c1 (opens (codes "l2") (table_with (codes "t") (codes "x" ∷ []) ∷ []) None) reply.Spent)
+    step (c1 (opens (codes "l2") t_over_u None) (reply.Overlap (codes "t") (codes "u")))
+    ∷ no_step (c1 (opens (codes "l2") t_over_u None) (reply.Fenced (codes "l1")))
+    ∷ no_step (c1 (opens (codes "l2") both_x None) reply.Spent)
+    ∷ step (c1 (opens (codes "l2") only_t None) (reply.Fenced (codes "l1")))
+    ∷ no_step (c1 (opens (codes "l2") only_t None) reply.Spent)
+    ∷ step (c1 (opens (codes "l2") only_x None) reply.Spent)
     ∷ [])
     -- memory may be wanting at any of these places
     ∷ case_from (2 ^ 56) 1 (fenced_a_to_m ∷ []) (
-    step (c1 (opens (codes "l2") (table_with (codes "t") a_and_d ∷ table_with (codes "u") (codes "b" ∷ []) ∷ []) None) reply.Memory)
-    ∷ step (c1 (opens (codes "l2") (table_with (codes "t") a_and_d ∷ []) None) reply.Memory)
-    ∷ step (c1 (opens (codes "l2") (table_with (codes "t") (codes "x" ∷ []) ∷ []) None) reply.Memory)
+    step (c1 (opens (codes "l2") t_over_u None) reply.Memory)
+    ∷ step (c1 (opens (codes "l2") only_t None) reply.Memory)
+    ∷ step (c1 (opens (codes "l2") only_x None) reply.Memory)
     ∷ step (c1 (opens_span (codes "l2") m_to_t) reply.Memory)
     ∷ [])
     ∷ []
@@ -120,10 +136,10 @@ orders_of_openings_at_16 =
     ∷ step (c1 (opens (codes "l") [] None) reply.Nothing)
     ∷ no_step (c1 (opens (codes "l") [] None) reply.TooMany)
     -- too many before tables that meet, a fence, the want of numbers, and the want of memory
-    ∷ step (c1 (opens (codes "l") (table_with (codes "t") (codes "x" ∷ []) ∷ table_with (codes "u") (codes "x" ∷ []) ∷ []) None) reply.TooMany)
-    ∷ no_step (c1 (opens (codes "l") (table_with (codes "t") (codes "x" ∷ []) ∷ table_with (codes "u") (codes "x" ∷ []) ∷ []) None) (reply.Overlap (codes "t") (codes "u")))
+    ∷ step (c1 (opens (codes "l") both_x None) reply.TooMany)
+    ∷ no_step (c1 (opens (codes "l") both_x None) (reply.Overlap (codes "t") (codes "u")))
     ∷ no_step (c1 (opens_span (codes "l") a_to_c) (reply.Fenced (codes "ab")))
-    ∷ no_step (c1 (opens (codes "l") (table_with (codes "t") (codes "x" ∷ []) ∷ []) None) reply.Spent)
+    ∷ no_step (c1 (opens (codes "l") only_x None) reply.Spent)
     ∷ no_step (c1 (opens_span (codes "l") (from_to (codes "x") (codes "y"))) reply.Memory)
     ∷ [])
     ∷ []
@@ -138,7 +154,7 @@ orders_of_installs =
     ∷ no_step (c1 (Install (codes "l1")) reply.Memory)
     ∷ [])
     -- an opening that hasn't ended before a group to wait for
-    ∷ case (stored a_and_d ∷ c1 (opens (codes "l1") (table_with (codes "t") a_and_d ∷ []) None) reply.Opening ∷ []) (
+    ∷ case (stored a_and_d ∷ c1 (opens (codes "l1") only_t None) reply.Opening ∷ []) (
     step (c1 (Install (codes "l1")) reply.NotYet)
     ∷ no_step (c1 (Install (codes "l1")) (reply.Waits 1))
     ∷ no_step (c1 (Install (codes "l1")) reply.Memory)
@@ -318,18 +334,32 @@ busy_with_moves =
     step (let_go (Shut (codes "k")) reply.Shut 1) ∷ no_step (c1 (Shut (codes "k")) (reply.Busy 1)) ∷ [])
     ∷ []
 
+-- the same note with another reply, and these holds let go
+abbrev pub failing : Note → Reply → List ℕ → Note
+failing n r holds = record n { reply = r; holds = map Release holds }
+
+-- it may fail in each way, and lets these holds go, or in none
 abbrev pub fails_with : Note → List ℕ → List Next
-fails_with n holds = step (record n { reply = reply.Fault; holds = map Release holds }) ∷ step (record n { reply = reply.Damaged 1 0; holds = map Release holds }) ∷ step (record n { reply = reply.Memory; holds = map Release holds }) ∷ []
+fails_with n holds =
+    step (failing n reply.Fault holds)
+    ∷ step (failing n (reply.Damaged 1 0) holds)
+    ∷ step (failing n reply.Memory holds)
+    ∷ []
 
 abbrev pub fails_not : Note → List Next
-fails_not n = no_step (record n { reply = reply.Fault }) ∷ no_step (record n { reply = reply.Damaged 1 0 }) ∷ no_step (record n { reply = reply.Memory }) ∷ []
+fails_not n =
+    no_step (failing n reply.Fault [])
+    ∷ no_step (failing n (reply.Damaged 1 0) [])
+    ∷ no_step (failing n reply.Memory [])
+    ∷ []
 
 -- what work that is under way may come to
 abbrev pub failures_of_work : List Case
 failures_of_work =
     -- there is none
     case [] (
-    step (db (Build 1) reply.NoSuch) ∷ step (db (Work 1) reply.NoSuch) ∷ (fails_not (db (Build 1) reply.NoSuch) ++ fails_not (db (Work 1) reply.NoSuch)))
+    step (db (Build 1) reply.NoSuch) ∷ step (db (Work 1) reply.NoSuch)
+    ∷ (fails_not (db (Build 1) reply.NoSuch) ++ fails_not (db (Work 1) reply.NoSuch)))
     -- a flush, which holds nothing
     ∷ case (stored (codes "a" ∷ []) ∷ db Seal (reply.Group 1) ∷ db FlushTake (reply.Job 1) ∷ []) (
     step (db (Build 1) reply.NoSuch)
@@ -357,13 +387,13 @@ failures_of_work =
     ∷ step (c1 (Settle 1) reply.NotYet)
     ∷ fails_with (c1 (Ask 1 (get (codes "a")) false) reply.NoSuch) (1 ∷ []))
     -- the opening of a load
-    ∷ case (c1 (opens (codes "l1") (table_with (codes "t") a_and_d ∷ []) None) reply.Opening ∷ []) (
-    step (c1 (opens (codes "l1") (table_with (codes "t") a_and_d ∷ []) None) reply.Opened)
-    ∷ step (c1 (opens (codes "l1") (table_with (codes "t") a_and_d ∷ []) None) reply.Fault)
-    ∷ step (c1 (opens (codes "l1") (table_with (codes "t") a_and_d ∷ []) None) reply.Memory)
-    ∷ step (c1 (opens (codes "l1") (table_with (codes "t") a_and_d ∷ []) None) reply.NameInUse)
-    ∷ no_step (c1 (opens (codes "l1") (table_with (codes "t") a_and_d ∷ []) None) (reply.Damaged 1 0))
-    ∷ no_step (c1 (opens (codes "l1") (table_with (codes "t") a_and_d ∷ []) None) reply.NotYet)
+    ∷ case (c1 (opens (codes "l1") only_t None) reply.Opening ∷ []) (
+    step (c1 (opens (codes "l1") only_t None) reply.Opened)
+    ∷ step (c1 (opens (codes "l1") only_t None) reply.Fault)
+    ∷ step (c1 (opens (codes "l1") only_t None) reply.Memory)
+    ∷ step (c1 (opens (codes "l1") only_t None) reply.NameInUse)
+    ∷ no_step (c1 (opens (codes "l1") only_t None) (reply.Damaged 1 0))
+    ∷ no_step (c1 (opens (codes "l1") only_t None) reply.NotYet)
     ∷ [])
     -- what is shown may want memory
     ∷ case [] (step (db (Show show.Levels) reply.Memory) ∷ no_step (db (Show show.Levels) reply.Nothing) ∷ [])

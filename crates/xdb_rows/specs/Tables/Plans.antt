@@ -24,6 +24,12 @@ sized range num size = file_table num range num num size
 abbrev pub of_range : Bounds → ℕ → Table
 of_range range num = sized range num 90
 
+abbrev pub a_to_m_of : ℕ → Table
+a_to_m_of num = of_range (from_upto (codes "a") (codes "m")) num
+
+abbrev pub a_to_g : Bounds
+a_to_g = from_upto (codes "a") (codes "g")
+
 abbrev pub auto_nothing : Note
 auto_nothing = db (CompactTake Auto) reply.Nothing
 
@@ -39,25 +45,30 @@ chain =
 abbrev pub inputs_of_chains : List Case
 inputs_of_chains =
     case (chain ++ compact (from_to (codes "a") (codes "b")) 5 4 ∷ []) (
-    step (put_compaction 5 ((0, 1) ∷ (0, 2) ∷ (0, 3) ∷ []) (5 ∷ []) ((1, of_range (from_upto (codes "a") (codes "g")) 5) ∷ []))
-    ∷ no_step (put_compaction 5 ((0, 1) ∷ []) (5 ∷ []) ((1, of_range (from_upto (codes "a") (codes "c")) 5) ∷ []))
-    ∷ no_step (put_compaction 5 ((0, 1) ∷ (0, 2) ∷ []) (5 ∷ []) ((1, of_range (from_upto (codes "a") (codes "e")) 5) ∷ []))
-    ∷ no_step (put_compaction 5 ((0, 1) ∷ (0, 2) ∷ (0, 3) ∷ (0, 4) ∷ []) (5 ∷ []) ((1, of_range (from_upto (codes "a") (codes "g")) 5) ∷ []))
+    step (put_compaction 5 ((0, 1) ∷ (0, 2) ∷ (0, 3) ∷ []) (5 ∷ []) ((1, of_range a_to_g 5) ∷ []))
+    ∷ no_step (put_compaction 5 ((0, 1) ∷ []) (5 ∷ []) ((1, of_range (from_upto (codes "a") (codes "c")) 5)
+    ∷ []))
+    ∷ no_step (put_compaction 5 ((0, 1)
+    ∷ (0, 2) ∷ []) (5 ∷ []) ((1, of_range (from_upto (codes "a") (codes "e")) 5) ∷ []))
+    ∷ no_step (put_compaction 5 ((0, 1) ∷ (0, 2) ∷ (0, 3) ∷ (0, 4) ∷ []) (5 ∷ []) ((1, of_range a_to_g 5) ∷ []))
     -- the hull ends where the last of them does
-    ∷ no_step (put_compaction 5 ((0, 1) ∷ (0, 2) ∷ (0, 3) ∷ []) (5 ∷ []) ((1, of_range (from_upto (codes "a") (codes "h")) 5) ∷ []))
+    ∷ no_step (put_compaction 5 ((0, 1) ∷ (0, 2)
+    ∷ (0, 3) ∷ []) (5 ∷ []) ((1, of_range (from_upto (codes "a") (codes "h")) 5) ∷ []))
     ∷ [])
     -- tables that only touch are apart
-    ∷ case (flush_of 1 (of_range (from_to (codes "a") (codes "c")) 1) ++ flush_of 2 (of_range (from_to (codes "c") (codes "e")) 2)
+    ∷ case (flush_of 1 (of_range (from_to (codes "a") (codes "c")) 1)
+    ++ flush_of 2 (of_range (from_to (codes "c") (codes "e")) 2)
     ++ compact (from_to (codes "a") (codes "b")) 3 2 ∷ []) (
     step (put_compaction 3 ((0, 1) ∷ []) (3 ∷ []) ((1, of_range (from_to (codes "a") (codes "c")) 3) ∷ []))
-    ∷ no_step (put_compaction 3 ((0, 1) ∷ (0, 2) ∷ []) (3 ∷ []) ((1, of_range (from_to (codes "a") (codes "c")) 3) ∷ []))
+    ∷ no_step (put_compaction 3 ((0, 1)
+    ∷ (0, 2) ∷ []) (3 ∷ []) ((1, of_range (from_to (codes "a") (codes "c")) 3) ∷ []))
     ∷ [])
     ∷ []
 
 -- a table in L1 from a to m, and later b and k in L0
 abbrev pub wide_below : List Note
 wide_below =
-    flush_of 1 (of_range (from_upto (codes "a") (codes "m")) 1)
+    flush_of 1 (a_to_m_of 1)
     ++ compact a_to_z 2 1
     ∷ put_compaction 2 ((0, 1) ∷ []) (2 ∷ []) ((1, of_range (from_upto (codes "a") (codes "m")) 2) ∷ [])
     ∷ stored (codes "b" ∷ []) ∷ flushed 2 3 (of_range (one (codes "b")) 66)
@@ -67,15 +78,19 @@ wide_below =
 abbrev pub inputs_of_two_levels : List Case
 inputs_of_two_levels =
     case (wide_below ++ compact (one (codes "b")) 5 4 ∷ []) (
-    step (put_compaction 5 ((0, 66) ∷ (0, 67) ∷ (1, 2) ∷ []) (68 ∷ []) ((1, of_range (from_upto (codes "a") (codes "m")) 68) ∷ []))
-    ∷ no_step (put_compaction 5 ((0, 66) ∷ (1, 2) ∷ []) (68 ∷ []) ((1, of_range (from_upto (codes "a") (codes "m")) 68) ∷ []))
+    step (put_compaction 5 ((0, 66) ∷ (0, 67)
+    ∷ (1, 2) ∷ []) (68 ∷ []) ((1, of_range (from_upto (codes "a") (codes "m")) 68) ∷ []))
+    ∷ no_step (put_compaction 5 ((0, 66)
+    ∷ (1, 2) ∷ []) (68 ∷ []) ((1, of_range (from_upto (codes "a") (codes "m")) 68) ∷ []))
     ∷ no_step (put_compaction 5 ((0, 66) ∷ []) (68 ∷ []) ((1, of_range (one (codes "b")) 68) ∷ []))
     ∷ [])
     -- a level is compacted without the one above it
     ∷ case (wide_below ++ compact_at 1 (one (codes "b")) 5 4 ∷ []) (
     step (put_compaction 5 ((1, 2) ∷ []) (68 ∷ []) ((2, of_range (from_upto (codes "a") (codes "m")) 68) ∷ []))
-    ∷ no_step (put_compaction 5 ((0, 66) ∷ (0, 67) ∷ (1, 2) ∷ []) (68 ∷ []) ((2, of_range (from_upto (codes "a") (codes "m")) 68) ∷ []))
-    ∷ no_step (put_compaction 5 ((1, 2) ∷ []) (68 ∷ []) ((1, of_range (from_upto (codes "a") (codes "m")) 68) ∷ []))
+    ∷ no_step (put_compaction 5 ((0, 66) ∷ (0, 67)
+    ∷ (1, 2) ∷ []) (68 ∷ []) ((2, of_range (from_upto (codes "a") (codes "m")) 68) ∷ []))
+    ∷ no_step (put_compaction 5 ((1, 2) ∷ []) (68 ∷ []) ((1, of_range (from_upto (codes "a") (codes "m")) 68)
+    ∷ []))
     ∷ [])
     ∷ []
 
@@ -124,9 +139,11 @@ beside_p range =
 abbrev pub plans_beside_running : List Case
 plans_beside_running =
     case (beside_p (from_upto (codes "a") (codes "q"))) (
-    step (nothing_in 0 (from_to (codes "a") (codes "b"))) ∷ no_step (compact (from_to (codes "a") (codes "b")) 4 2) ∷ [])
+    step (nothing_in 0 (from_to (codes "a") (codes "b")))
+    ∷ no_step (compact (from_to (codes "a") (codes "b")) 4 2) ∷ [])
     ∷ case (beside_p (from_to (codes "a") (codes "p"))) (
-    step (compact (from_to (codes "a") (codes "b")) 4 2) ∷ no_step (nothing_in 0 (from_to (codes "a") (codes "b"))) ∷ [])
+    step (compact (from_to (codes "a") (codes "b")) 4 2)
+    ∷ no_step (nothing_in 0 (from_to (codes "a") (codes "b"))) ∷ [])
     ∷ []
 
 -- Tables of a and d in L0 by flushes, and of other keys by a load that was opened before them and installed while
@@ -143,16 +160,19 @@ later_with_least_numbers tables files added num =
 
 abbrev pub three_in_l0 : List Note
 three_in_l0 =
-    later_with_least_numbers (table_with (codes "b") (codes "b" ∷ []) ∷ []) (1 ∷ []) ((0, loaded_key 1 (codes "b") 3) ∷ []) 2
+    later_with_least_numbers (table_with (codes "b") (codes "b" ∷ []) ∷ []) (1 ∷ [])
+    ((0, loaded_key 1 (codes "b") 3) ∷ []) 2
 
 abbrev pub four_in_l0 : List Note
 four_in_l0 =
-    later_with_least_numbers (table_with (codes "b") (codes "b" ∷ []) ∷ table_with (codes "c") (codes "c" ∷ []) ∷ [])
+    later_with_least_numbers (table_with (codes "b") (codes "b" ∷ [])
+    ∷ table_with (codes "c") (codes "c" ∷ []) ∷ [])
     (1 ∷ 2 ∷ []) ((0, loaded_key 1 (codes "b") 3) ∷ (0, loaded_key 2 (codes "c") 3) ∷ []) 3
 
 -- a compaction of one table of L0, with the first file numbers behind those of the one that failed
 abbrev pub put_one : ℕ → ℕ → List ℕ → ℕ → Note
-put_one job input key num = put_compaction job ((0, input) ∷ []) (num ∷ []) ((1, file_table num (one key) 1 1 85) ∷ [])
+put_one job input key num =
+    put_compaction job ((0, input) ∷ []) (num ∷ []) ((1, file_table num (one key) 1 1 85) ∷ [])
 
 -- L0 is due with four tables, and its tables are tried by their sequence numbers
 abbrev pub picks_of_l0 : List Case
@@ -166,8 +186,10 @@ picks_of_l0 =
     ∷ [])
     -- they are named by their file numbers
     ∷ case (four_in_l0 ++ compact (from_to (codes "a") (codes "e")) 4 3 ∷ []) (
-    step (put_compaction 4 ((0, 1) ∷ (0, 2) ∷ (0, 3) ∷ (0, 4) ∷ []) (69 ∷ []) ((1, file_table 69 (from_upto (codes "a") (codes "d")) 1 3 90) ∷ []))
-    ∷ no_step (put_compaction 4 ((0, 3) ∷ (0, 4) ∷ (0, 1) ∷ (0, 2) ∷ []) (69 ∷ []) ((1, file_table 69 (from_upto (codes "a") (codes "d")) 1 3 90) ∷ []))
+    step (put_compaction 4 ((0, 1) ∷ (0, 2) ∷ (0, 3)
+    ∷ (0, 4) ∷ []) (69 ∷ []) ((1, file_table 69 (from_upto (codes "a") (codes "d")) 1 3 90) ∷ []))
+    ∷ no_step (put_compaction 4 ((0, 3) ∷ (0, 4) ∷ (0, 1)
+    ∷ (0, 2) ∷ []) (69 ∷ []) ((1, file_table 69 (from_upto (codes "a") (codes "d")) 1 3 90) ∷ []))
     ∷ [])
     ∷ []
 
@@ -176,7 +198,8 @@ abbrev pub picks_beside_running : List Case
 picks_beside_running =
     case (four_in_l0 ++ compact (one (codes "a")) 4 3 ∷ compact_auto 5 3 ∷ []) (
     step (put_one 5 4 (codes "d") 133) ∷ no_step (put_one 5 1 (codes "b") 133) ∷ [])
-    ∷ case (four_in_l0 ++ compact (from_upto (codes "a") (codes "d")) 4 3 ∷ []) (step auto_nothing ∷ no_step (compact_auto 5 3) ∷ [])
+    ∷ case (four_in_l0 ++ compact (from_upto (codes "a") (codes "d")) 4 3 ∷ []) (step auto_nothing
+    ∷ no_step (compact_auto 5 3) ∷ [])
     ∷ []
 
 -- a table of a compaction of L0, with a size, in L1
@@ -187,12 +210,14 @@ abbrev pub one_in_l1 : ℕ → List Note
 one_in_l1 size = in_l1 ((1, sized a_to_d 2 size) ∷ []) (2 ∷ [])
 
 abbrev pub two_in_l1 : ℕ → ℕ → List Note
-two_in_l1 size other = in_l1 ((1, sized (one (codes "a")) 2 size) ∷ (1, sized (one (codes "d")) 3 other) ∷ []) (2 ∷ 3 ∷ [])
+two_in_l1 size other =
+    in_l1 ((1, sized (one (codes "a")) 2 size) ∷ (1, sized (one (codes "d")) 3 other) ∷ []) (2 ∷ 3 ∷ [])
 
 -- and one in L2
 abbrev pub one_in_l2 : ℕ → List Note
 one_in_l2 size =
-    one_in_l1 90 ++ compact_at 1 a_to_z 3 2 ∷ put_compaction 3 ((1, 2) ∷ []) (66 ∷ []) ((2, sized a_to_d 66 size) ∷ []) ∷ []
+    one_in_l1 90 ++ compact_at 1 a_to_z 3 2
+    ∷ put_compaction 3 ((1, 2) ∷ []) (66 ∷ []) ((2, sized a_to_d 66 size) ∷ []) ∷ []
 
 -- L1 is due where its sizes pass 65,536, and L2 where they pass eight times that
 abbrev pub picks_by_sizes : List Case
@@ -215,9 +240,11 @@ key_sized num key seq size = loaded_table num (one key) seq size
 abbrev pub x_and_b_in_l5 : ℕ → ℕ → ℕ → List Note
 x_and_b_in_l5 size_l6 size_x size_b =
     load (codes "l1") x_and_b None
-    ++ install (codes "l1") (changes [] (1 ∷ 2 ∷ []) ((6, key_sized 1 (codes "x") 1 size_l6) ∷ (6, key_sized 2 (codes "b") 1 size_l6) ∷ []))
+    ++ install (codes "l1") (changes [] (1 ∷ 2 ∷ []) ((6, key_sized 1 (codes "x") 1 size_l6)
+    ∷ (6, key_sized 2 (codes "b") 1 size_l6) ∷ []))
     ∷ load (codes "l2") x_and_b None
-    ++ install (codes "l2") (changes [] (3 ∷ 4 ∷ []) ((5, key_sized 3 (codes "x") 2 size_x) ∷ (5, key_sized 4 (codes "b") 2 size_b) ∷ []))
+    ++ install (codes "l2") (changes [] (3 ∷ 4 ∷ []) ((5, key_sized 3 (codes "x") 2 size_x)
+    ∷ (5, key_sized 4 (codes "b") 2 size_b) ∷ []))
     ∷ []
 
 -- of the levels below L0 the tables are tried by their numbers; L5 is the last level that is due

@@ -1,6 +1,7 @@
 -- What pins a snapshot, what turns it file-only, and what excises it.
 use Rattle.std.specs.Prelude.{ℕ, true, List, [], ◌∷◌, ◌++◌, None, Some, codes}
 use Rattle.xdb_key.specs.Bounds.{Bounds}
+use Rattle.xdb_key.specs.declared.state.SnapState.{SnapState}
 use Rattle.xdb_key.specs.declared.state.SnapState.TheVariants as state
 use Rattle.xdb_edit.specs.Changes.{changes}
 use Rattle.xdb_plain.specs.declared.act.Act.{Act}
@@ -20,12 +21,19 @@ use Rattle.xdb_rows.specs.Tables.Small.{a_to_c, a_to_m, c_to_e, m_to_t, a_to_z, 
 abbrev pub snap : List ℕ → List Bounds → Act
 snap name ranges = Snap name ranges
 
+abbrev pub snap_s1 : Act
+snap_s1 = Snap (codes "s1") (a_to_m ∷ [])
+
+-- the snapshots as they are shown
+abbrev pub shows : List (List ℕ × SnapState) → Note
+shows states = db (Show show.Snaps) (reply.Snaps states)
+
 -- a snapshot of a to m, pinned by a group, or file-only with a hold
 abbrev pub pinned_s1 : ℕ → Note
-pinned_s1 group = c1 (snap (codes "s1") (a_to_m ∷ [])) (reply.Pinned group)
+pinned_s1 group = c1 snap_s1 (reply.Pinned group)
 
 abbrev pub file_only_s1 : ℕ → ℕ → Note
-file_only_s1 hold version = holding (c1 (snap (codes "s1") (a_to_m ∷ [])) reply.FileOnly) (Hold hold version ∷ [])
+file_only_s1 hold version = holding (c1 snap_s1 reply.FileOnly) (Hold hold version ∷ [])
 
 abbrev pub status_s1 : Reply → Note
 status_s1 r = c1 (Status (codes "s1") status_form.Status) r
@@ -34,31 +42,37 @@ status_s1 r = c1 (Status (codes "s1") status_form.Status) r
 abbrev pub pinned_by_groups : List Case
 pinned_by_groups =
     -- the last that touches the ranges, and not the first or the last of all
-    case (stored (codes "b" ∷ []) ∷ db Seal (reply.Group 1) ∷ stored (codes "x" ∷ codes "b" ∷ []) ∷ db Seal (reply.Group 2) ∷ stored (codes "x" ∷ []) ∷ []) (
+    case (stored (codes "b" ∷ []) ∷ db Seal (reply.Group 1) ∷ stored (codes "x" ∷ codes "b" ∷ [])
+    ∷ db Seal (reply.Group 2) ∷ stored (codes "x" ∷ []) ∷ []) (
     step (pinned_s1 2)
     ∷ no_step (pinned_s1 1)
     ∷ no_step (pinned_s1 3)
-    ∷ no_step (c1 (snap (codes "s1") (a_to_m ∷ [])) reply.FileOnly)
+    ∷ no_step (c1 snap_s1 reply.FileOnly)
     ∷ [])
     -- the active one as well
     ∷ case (stored (codes "b" ∷ []) ∷ db Seal (reply.Group 1) ∷ stored (codes "b" ∷ []) ∷ []) (
     step (pinned_s1 2) ∷ no_step (pinned_s1 1) ∷ [])
     -- none that touches no range
-    ∷ case (stored (codes "m" ∷ codes "x" ∷ []) ∷ []) (step (file_only_s1 1 0) ∷ no_step (holding (pinned_s1 1) (Hold 1 0 ∷ [])) ∷ [])
-    ∷ case (stored (codes "a" ∷ []) ∷ []) (step (pinned_s1 1) ∷ no_step (c1 (snap (codes "s1") (a_to_m ∷ [])) reply.FileOnly) ∷ [])
+    ∷ case (stored (codes "m" ∷ codes "x" ∷ []) ∷ []) (step (file_only_s1 1 0)
+    ∷ no_step (holding (pinned_s1 1) (Hold 1 0 ∷ [])) ∷ [])
+    ∷ case (stored (codes "a" ∷ []) ∷ []) (step (pinned_s1 1) ∷ no_step (c1 snap_s1 reply.FileOnly) ∷ [])
     -- any of the ranges serves
     ∷ case (stored (codes "n" ∷ []) ∷ []) (
     step (c1 (snap (codes "s1") (a_to_c ∷ m_to_t ∷ [])) (reply.Pinned 1))
     ∷ no_step (c1 (snap (codes "s1") (a_to_c ∷ m_to_t ∷ [])) reply.FileOnly)
     ∷ step (c1 (snap (codes "s1") (m_to_t ∷ (from_to (codes "x") (codes "y")) ∷ [])) (reply.Pinned 1))
     -- but not what lies between them
-    ∷ step (holding (c1 (snap (codes "s1") (a_to_m ∷ (from_to (codes "x") (codes "y")) ∷ [])) reply.FileOnly) (Hold 1 0 ∷ []))
+    ∷ step (holding (c1 (snap (codes "s1") (a_to_m
+    ∷ (from_to (codes "x") (codes "y")) ∷ [])) reply.FileOnly) (Hold 1 0 ∷ []))
     ∷ [])
     -- a range delete touches what it meets
-    ∷ case (c1 (delspan (from_to (codes "l") (codes "p"))) reply.Done ∷ []) (step (pinned_s1 1) ∷ no_step (c1 (snap (codes "s1") (a_to_m ∷ [])) reply.FileOnly) ∷ [])
-    ∷ case (c1 (delspan m_to_t) reply.Done ∷ []) (step (file_only_s1 1 0) ∷ no_step (holding (pinned_s1 1) (Hold 1 0 ∷ [])) ∷ [])
+    ∷ case (c1 (delspan (from_to (codes "l") (codes "p"))) reply.Done ∷ []) (step (pinned_s1 1)
+    ∷ no_step (c1 snap_s1 reply.FileOnly) ∷ [])
+    ∷ case (c1 (delspan m_to_t) reply.Done ∷ []) (step (file_only_s1 1 0)
+    ∷ no_step (holding (pinned_s1 1) (Hold 1 0 ∷ [])) ∷ [])
     -- a group that is flushed pins no more
-    ∷ case (stored (codes "b" ∷ []) ∷ flushed 1 1 (table_of_key 1 (codes "b") 1)) (step (file_only_s1 1 1) ∷ no_step (holding (pinned_s1 1) (Hold 1 1 ∷ [])) ∷ [])
+    ∷ case (stored (codes "b" ∷ []) ∷ flushed 1 1 (table_of_key 1 (codes "b") 1)) (step (file_only_s1 1 1)
+    ∷ no_step (holding (pinned_s1 1) (Hold 1 1 ∷ [])) ∷ [])
     ∷ []
 
 -- a flush of the first group is to be put
@@ -69,24 +83,34 @@ first_put = put_flush 1 (table_of_key 1 (codes "b") 1)
 abbrev pub turned_at_flushes : List Case
 turned_at_flushes =
     -- the next group begins at the mark, so the snapshot turns
-    case (stored (codes "b" ∷ []) ∷ pinned_s1 1 ∷ db Seal (reply.Group 1) ∷ stored (codes "b" ∷ []) ∷ db FlushTake (reply.Job 1) ∷ []) (
+    case (stored (codes "b" ∷ []) ∷ pinned_s1 1 ∷ db Seal (reply.Group 1) ∷ stored (codes "b" ∷ [])
+    ∷ db FlushTake (reply.Job 1) ∷ []) (
     step (holding first_put (Hold 1 1 ∷ [])) ∷ wrong_holds first_put ∷ [])
-    ∷ case (stored (codes "b" ∷ []) ∷ pinned_s1 1 ∷ db Seal (reply.Group 1) ∷ stored (codes "b" ∷ []) ∷ db FlushTake (reply.Job 1) ∷ holding first_put (Hold 1 1 ∷ []) ∷ []) (
-    step (status_s1 reply.FileOnly) ∷ no_step (status_s1 (reply.Pinned 1)) ∷ no_step (status_s1 (reply.Pinned 2)) ∷ [])
+    ∷ case (stored (codes "b" ∷ []) ∷ pinned_s1 1 ∷ db Seal (reply.Group 1) ∷ stored (codes "b" ∷ [])
+    ∷ db FlushTake (reply.Job 1) ∷ holding first_put (Hold 1 1 ∷ []) ∷ []) (
+    step (status_s1 reply.FileOnly) ∷ no_step (status_s1 (reply.Pinned 1))
+    ∷ no_step (status_s1 (reply.Pinned 2)) ∷ [])
     -- a later group has an operation just below the mark, so it stays pinned
-    ∷ case (stored (codes "b" ∷ []) ∷ db Seal (reply.Group 1) ∷ stored (codes "b" ∷ []) ∷ pinned_s1 2 ∷ db FlushTake (reply.Job 1) ∷ []) (
+    ∷ case (stored (codes "b" ∷ []) ∷ db Seal (reply.Group 1) ∷ stored (codes "b" ∷ []) ∷ pinned_s1 2
+    ∷ db FlushTake (reply.Job 1) ∷ []) (
     step first_put ∷ wrong_holds (holding first_put (Hold 1 1 ∷ [])) ∷ [])
-    ∷ case (stored (codes "b" ∷ []) ∷ db Seal (reply.Group 1) ∷ stored (codes "b" ∷ []) ∷ pinned_s1 2 ∷ db FlushTake (reply.Job 1) ∷ first_put ∷ []) (
-    step (status_s1 (reply.Pinned 2)) ∷ no_step (status_s1 reply.FileOnly) ∷ no_step (status_s1 (reply.Pinned 1)) ∷ [])
+    ∷ case (stored (codes "b" ∷ []) ∷ db Seal (reply.Group 1) ∷ stored (codes "b" ∷ []) ∷ pinned_s1 2
+    ∷ db FlushTake (reply.Job 1) ∷ first_put ∷ []) (
+    step (status_s1 (reply.Pinned 2)) ∷ no_step (status_s1 reply.FileOnly)
+    ∷ no_step (status_s1 (reply.Pinned 1)) ∷ [])
     -- a later group has none in its ranges, so it turns
-    ∷ case (stored (codes "b" ∷ []) ∷ db Seal (reply.Group 1) ∷ stored (codes "x" ∷ []) ∷ pinned_s1 1 ∷ db FlushTake (reply.Job 1) ∷ []) (
+    ∷ case (stored (codes "b" ∷ []) ∷ db Seal (reply.Group 1) ∷ stored (codes "x" ∷ []) ∷ pinned_s1 1
+    ∷ db FlushTake (reply.Job 1) ∷ []) (
     step (holding first_put (Hold 1 1 ∷ [])) ∷ wrong_holds first_put ∷ [])
     -- a flush that fails turns nothing
-    ∷ case (stored (codes "b" ∷ []) ∷ pinned_s1 1 ∷ db Seal (reply.Group 1) ∷ db FlushTake (reply.Job 1) ∷ db (Build 1) reply.Fault ∷ []) (
+    ∷ case (stored (codes "b" ∷ []) ∷ pinned_s1 1 ∷ db Seal (reply.Group 1) ∷ db FlushTake (reply.Job 1)
+    ∷ db (Build 1) reply.Fault ∷ []) (
     step (status_s1 (reply.Pinned 1)) ∷ no_step (status_s1 reply.FileOnly) ∷ [])
     -- and nor does one that isn't put yet
-    ∷ case (stored (codes "b" ∷ []) ∷ pinned_s1 1 ∷ db Seal (reply.Group 1) ∷ db FlushTake (reply.Job 1) ∷ db (Put 1) reply.Memory ∷ []) (
-    step (c1 (Status (codes "s1") status_form.Await) (reply.Pinned 1)) ∷ no_step (c1 (Status (codes "s1") status_form.Await) reply.FileOnly) ∷ [])
+    ∷ case (stored (codes "b" ∷ []) ∷ pinned_s1 1 ∷ db Seal (reply.Group 1) ∷ db FlushTake (reply.Job 1)
+    ∷ db (Put 1) reply.Memory ∷ []) (
+    step (c1 (Status (codes "s1") status_form.Await) (reply.Pinned 1))
+    ∷ no_step (c1 (Status (codes "s1") status_form.Await) reply.FileOnly) ∷ [])
     ∷ []
 
 -- a table of x in L0 is compacted, and beside it a sealed group pins a snapshot
@@ -98,13 +122,15 @@ compacted_beside =
     ∷ []
 
 abbrev pub second_put : Note
-second_put = changing (db (Put 2) reply.Installed) (changes ((0, 1) ∷ []) (2 ∷ []) ((1, table_of_key 2 (codes "x") 1) ∷ []))
+second_put =
+    changing (db (Put 2) reply.Installed) (changes ((0, 1) ∷ []) (2 ∷ []) ((1, table_of_key 2 (codes "x") 1) ∷ []))
 
 -- a compaction turns no snapshot, and takes no group away
 abbrev pub turned_at_no_compaction : List Case
 turned_at_no_compaction =
     case compacted_beside (
-    step (holding second_put (Release 1 ∷ [])) ∷ wrong_holds (holding second_put (Release 1 ∷ Hold 2 2 ∷ [])) ∷ [])
+    step (holding second_put (Release 1 ∷ [])) ∷ wrong_holds (holding second_put (Release 1 ∷ Hold 2 2 ∷ []))
+    ∷ [])
     ∷ case (compacted_beside ++ holding second_put (Release 1 ∷ []) ∷ []) (
     step (status_s1 (reply.Pinned 2))
     ∷ no_step (status_s1 reply.FileOnly)
@@ -124,24 +150,29 @@ install_plain name = install name (changes [] [] [])
 abbrev pub excised_by_spans : List Case
 excised_by_spans =
     -- one that meets the second range, or the first
-    case (two_ranges (codes "a") ++ excise (codes "l1") (from_to (codes "p") (codes "q")) ∷ install_plain (codes "l1") ∷ []) (
+    case (two_ranges (codes "a") ++ excise (codes "l1") (from_to (codes "p") (codes "q"))
+    ∷ install_plain (codes "l1") ∷ []) (
     step (status_s1 (reply.Excised (codes "l1")))
     ∷ no_step (status_s1 (reply.Pinned 1))
     ∷ no_step (status_s1 reply.FileOnly)
     ∷ [])
-    ∷ case (two_ranges (codes "n") ++ excise (codes "l1") (from_to (codes "b") (codes "f")) ∷ install_plain (codes "l1") ∷ []) (
+    ∷ case (two_ranges (codes "n") ++ excise (codes "l1") (from_to (codes "b") (codes "f"))
+    ∷ install_plain (codes "l1") ∷ []) (
     step (status_s1 (reply.Excised (codes "l1"))) ∷ no_step (status_s1 (reply.Pinned 1)) ∷ [])
     -- not one that only touches both
-    ∷ case (two_ranges (codes "a") ++ excise (codes "l1") (from_to (codes "c") (codes "m")) ∷ install_plain (codes "l1") ∷ []) (
+    ∷ case (two_ranges (codes "a") ++ excise (codes "l1") (from_to (codes "c") (codes "m"))
+    ∷ install_plain (codes "l1") ∷ []) (
     step (status_s1 (reply.Pinned 1)) ∷ no_step (status_s1 (reply.Excised (codes "l1"))) ∷ [])
     -- not before the install
-    ∷ case (two_ranges (codes "a") ++ excise (codes "l1") (from_to (codes "p") (codes "q")) ∷ c1 (Install (codes "l1")) reply.Fault ∷ []) (
+    ∷ case (two_ranges (codes "a") ++ excise (codes "l1") (from_to (codes "p") (codes "q"))
+    ∷ c1 (Install (codes "l1")) reply.Fault ∷ []) (
     step (status_s1 (reply.Pinned 1)) ∷ no_step (status_s1 (reply.Excised (codes "l1"))) ∷ [])
     -- not the tables of a load
     ∷ case (two_ranges (codes "a") ++ load (codes "l1") (table_with (codes "t") (codes "p" ∷ []) ∷ []) None
     ++ install (codes "l1") (changes [] (1 ∷ []) ((6, loaded_key 1 (codes "p") 2) ∷ [])) ∷ []) (
     step (status_s1 (reply.Pinned 1)) ∷ no_step (status_s1 (reply.Excised (codes "l1"))) ∷ [])
-    ∷ case (two_ranges (codes "a") ++ load (codes "l1") (table_with (codes "t") (codes "p" ∷ []) ∷ []) (Some (from_to (codes "x") (codes "y")))
+    ∷ case (two_ranges (codes "a")
+    ++ load (codes "l1") (table_with (codes "t") (codes "p" ∷ []) ∷ []) (Some (from_to (codes "x") (codes "y")))
     ++ install (codes "l1") (changes [] (1 ∷ []) ((6, loaded_key 1 (codes "p") 2) ∷ [])) ∷ []) (
     step (status_s1 (reply.Pinned 1)) ∷ no_step (status_s1 (reply.Excised (codes "l1"))) ∷ [])
     ∷ []
@@ -156,10 +187,12 @@ p_to_q = from_to (codes "p") (codes "q")
 abbrev pub excised_by_the_first : List Case
 excised_by_the_first =
     -- the first that was installed, and no later one
-    case (two_ranges (codes "a") ++ excise (codes "l1") b_to_c ∷ excise (codes "l2") p_to_q ∷ install_plain (codes "l1") ∷ install_plain (codes "l2") ∷ []) (
+    case (two_ranges (codes "a") ++ excise (codes "l1") b_to_c ∷ excise (codes "l2") p_to_q
+    ∷ install_plain (codes "l1") ∷ install_plain (codes "l2") ∷ []) (
     step (status_s1 (reply.Excised (codes "l1"))) ∷ no_step (status_s1 (reply.Excised (codes "l2"))) ∷ [])
     -- and not the first that was opened
-    ∷ case (two_ranges (codes "a") ++ excise (codes "l1") b_to_c ∷ excise (codes "l2") p_to_q ∷ install_plain (codes "l2") ∷ install_plain (codes "l1") ∷ []) (
+    ∷ case (two_ranges (codes "a") ++ excise (codes "l1") b_to_c ∷ excise (codes "l2") p_to_q
+    ∷ install_plain (codes "l2") ∷ install_plain (codes "l1") ∷ []) (
     step (status_s1 (reply.Excised (codes "l2"))) ∷ no_step (status_s1 (reply.Excised (codes "l1"))) ∷ [])
     ∷ []
 
@@ -176,23 +209,26 @@ excised_while_pinned =
     ∷ case (file_only_s1 1 0 ∷ excise (codes "l1") a_to_m ∷ install_plain (codes "l1") ∷ []) (
     step (status_s1 reply.FileOnly) ∷ no_step (status_s1 (reply.Excised (codes "l1"))) ∷ [])
     -- a flush then gives no hold
-    ∷ case (stored (codes "b" ∷ []) ∷ pinned_s1 1 ∷ excise (codes "l1") (from_to (codes "d") (codes "e")) ∷ install_plain (codes "l1")
+    ∷ case (stored (codes "b" ∷ []) ∷ pinned_s1 1 ∷ excise (codes "l1") (from_to (codes "d") (codes "e"))
+    ∷ install_plain (codes "l1")
     ∷ db Seal (reply.Group 1) ∷ db FlushTake (reply.Job 1) ∷ []) (
     step first_put ∷ wrong_holds (holding first_put (Hold 1 2 ∷ [])) ∷ [])
-    ∷ case (stored (codes "b" ∷ []) ∷ pinned_s1 1 ∷ excise (codes "l1") (from_to (codes "d") (codes "e")) ∷ install_plain (codes "l1")
+    ∷ case (stored (codes "b" ∷ []) ∷ pinned_s1 1 ∷ excise (codes "l1") (from_to (codes "d") (codes "e"))
+    ∷ install_plain (codes "l1")
     ∷ db Seal (reply.Group 1) ∷ db FlushTake (reply.Job 1) ∷ first_put ∷ []) (
     step (status_s1 (reply.Excised (codes "l1")))
     ∷ no_step (status_s1 reply.FileOnly)
     -- its name stays in use until it is dropped, and then nothing is let go
-    ∷ step (c1 (snap (codes "s1") (a_to_m ∷ [])) reply.NameInUse)
+    ∷ step (c1 snap_s1 reply.NameInUse)
     ∷ step (c1 (Drop (codes "s1")) reply.Dropped)
     ∷ [])
     -- of two snapshots the pinned one is excised
     ∷ case (file_only_s1 1 0 ∷ stored (codes "b" ∷ []) ∷ c1 (snap (codes "s2") (a_to_m ∷ [])) (reply.Pinned 1)
     ∷ excise (codes "l1") (from_to (codes "d") (codes "e")) ∷ install_plain (codes "l1") ∷ []) (
-    step (db (Show show.Snaps) (reply.Snaps ((codes "s1", state.FileOnly) ∷ (codes "s2", state.Excised (codes "l1")) ∷ [])))
-    ∷ no_step (db (Show show.Snaps) (reply.Snaps ((codes "s1", state.Excised (codes "l1")) ∷ (codes "s2", state.Excised (codes "l1")) ∷ [])))
-    ∷ no_step (db (Show show.Snaps) (reply.Snaps ((codes "s1", state.FileOnly) ∷ (codes "s2", state.Pinned 1) ∷ [])))
+    step (shows ((codes "s1", state.FileOnly) ∷ (codes "s2", state.Excised (codes "l1")) ∷ []))
+    ∷ no_step (shows ((codes "s1", state.Excised (codes "l1")) ∷ (codes "s2", state.Excised (codes "l1"))
+    ∷ []))
+    ∷ no_step (shows ((codes "s1", state.FileOnly) ∷ (codes "s2", state.Pinned 1) ∷ []))
     ∷ [])
     ∷ []
 
@@ -236,14 +272,18 @@ three_snaps =
 abbrev pub shown_by_name : List Case
 shown_by_name =
     case three_snaps (
-    step (db (Show show.Snaps) (reply.Snaps ((codes "s", state.FileOnly) ∷ (codes "sb", state.Pinned 1) ∷ (codes "t", state.FileOnly) ∷ [])))
-    ∷ no_step (db (Show show.Snaps) (reply.Snaps ((codes "t", state.FileOnly) ∷ (codes "sb", state.Pinned 1) ∷ (codes "s", state.FileOnly) ∷ [])))
-    ∷ no_step (db (Show show.Snaps) (reply.Snaps ((codes "s", state.FileOnly) ∷ (codes "t", state.FileOnly) ∷ (codes "sb", state.Pinned 1) ∷ [])))
-    ∷ no_step (db (Show show.Snaps) (reply.Snaps ((codes "s", state.FileOnly) ∷ (codes "sb", state.FileOnly) ∷ (codes "t", state.FileOnly) ∷ [])))
-    ∷ no_step (db (Show show.Snaps) (reply.Snaps ((codes "s", state.FileOnly) ∷ (codes "t", state.FileOnly) ∷ [])))
+    step (shows ((codes "s", state.FileOnly) ∷ (codes "sb", state.Pinned 1) ∷ (codes "t", state.FileOnly)
+    ∷ []))
+    ∷ no_step (shows ((codes "t", state.FileOnly) ∷ (codes "sb", state.Pinned 1)
+    ∷ (codes "s", state.FileOnly) ∷ []))
+    ∷ no_step (shows ((codes "s", state.FileOnly) ∷ (codes "t", state.FileOnly)
+    ∷ (codes "sb", state.Pinned 1) ∷ []))
+    ∷ no_step (shows ((codes "s", state.FileOnly) ∷ (codes "sb", state.FileOnly)
+    ∷ (codes "t", state.FileOnly) ∷ []))
+    ∷ no_step (shows ((codes "s", state.FileOnly) ∷ (codes "t", state.FileOnly) ∷ []))
     ∷ no_step (db (Show show.Snaps) (reply.Levels ([] ∷ [] ∷ [] ∷ [] ∷ [] ∷ [] ∷ [] ∷ [])))
     ∷ [])
-    ∷ case [] (step (db (Show show.Snaps) (reply.Snaps [])) ∷ [])
+    ∷ case [] (step (shows []) ∷ [])
     ∷ []
 
 -- how long a name is in use
@@ -296,6 +336,7 @@ inside_of_ranges =
     -- and the same of cursors
     ∷ step (holding (c1 (Cursor (codes "k") a_to_c (Some (codes "s1"))) reply.CursorOn) (Hold 2 0 ∷ []))
     ∷ step (c1 (Cursor (codes "k") (from_to (codes "b") (codes "d")) (Some (codes "s1"))) reply.Outside)
-    ∷ no_step (holding (c1 (Cursor (codes "k") (from_to (codes "b") (codes "d")) (Some (codes "s1"))) reply.CursorOn) (Hold 2 0 ∷ []))
+    ∷ no_step (holding (c1 (Cursor (codes "k") (from_to (codes "b") (codes "d"))
+    (Some (codes "s1"))) reply.CursorOn) (Hold 2 0 ∷ []))
     ∷ [])
     ∷ []
