@@ -5,3 +5,12 @@ pub mod Orders
 pub mod Runs
 pub mod Workers
 pub mod Told
+pub mod Small
+pub mod Orders
+pub mod Fences
+pub mod Numbers
+pub mod Limits
+pub mod Snapshots
+pub mod Compactions
+pub mod Plans
+pub mod Makers
