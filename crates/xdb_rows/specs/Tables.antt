@@ -1,11 +1,5 @@
-pub mod Answers
-pub mod Edits
-pub mod Holds
-pub mod Orders
-pub mod Runs
-pub mod Workers
-pub mod Told
 pub mod Small
+pub mod Answers
 pub mod Orders
 pub mod Fences
 pub mod Numbers
@@ -13,4 +7,9 @@ pub mod Limits
 pub mod Snapshots
 pub mod Compactions
 pub mod Plans
+pub mod Edits
+pub mod Holds
 pub mod Makers
+pub mod Runs
+pub mod Workers
+pub mod Told
