@@ -137,7 +137,8 @@ impl<F: FileRef, L: Ledger> Engine<F, L> {
         ensures notes { result.0.notes ≡ self.notes }
         ensures book { result.1 ≡ self.book }
         ensures right { IsRight self.first_seq self.first_file self.notes }
-        // What the notes tell of failures of devices was booked, and no file that tells its bytes is damaged.
+        // The notes tell of as many failures of devices as were booked, and of no damage over files
+        // that tell their bytes.
         ensures booked { result.1 ≡ faults self.notes }
         ensures undamaged { AreTold F.bytes → has_damage self.notes ≡ false }
         // No file is there yet that could be removed.

@@ -25,10 +25,12 @@ pub fn run_script<D: Device>(alloc: Global, script: Script, dev: &mut D) -> Resu
     ensures right { IfOk result (λ history. IsRight 1 1 history.notes) }
     ensures run { IfOk result (λ history. IsRunOf 1 1 script history.notes) }
 
-    // Faults are told only as far as the device's count rose, and damage only where files don't tell
-    // their bytes.
-    ensures faults { IfOk result (λ history. RoseBy (faults history.notes) (D.faults dev.old) (D.faults dev.new)) }
-    ensures undamaged { AreTold D.File.bytes → IfOk result (λ history. has_damage history.notes ≡ false) }
+    // Faults are told only as far as the device's count rose, and damage only over files that don't
+    // tell their bytes.
+    ensures faults { IfOk result (λ history.
+        RoseBy (faults history.notes) (D.faults dev.old) (D.faults dev.new)) }
+    ensures undamaged { AreTold D.File.bytes
+        → IfOk result (λ history. has_damage history.notes ≡ false) }
 
     ensures alone { dev.new ≡ dev.old }
 {
@@ -48,8 +50,10 @@ pub fn run_script_named<D: Device, L: Ledger>(
     requires built { first_unbuilt script ≡ None }
     ensures right { IfOk result (λ history. IsRight 1 1 history.notes) }
     ensures run { IfOk result (λ history. IsRunOf 1 1 script history.notes) }
-    ensures faults { IfOk result (λ history. RoseBy (faults history.notes) (D.faults _dev.old) (D.faults _dev.new)) }
-    ensures undamaged { AreTold D.File.bytes → IfOk result (λ history. has_damage history.notes ≡ false) }
+    ensures faults { IfOk result (λ history.
+        RoseBy (faults history.notes) (D.faults _dev.old) (D.faults _dev.new)) }
+    ensures undamaged { AreTold D.File.bytes
+        → IfOk result (λ history. has_damage history.notes ≡ false) }
     ensures alone { _dev.new ≡ _dev.old }
 {
     let (book, shares) = FaultBook::<L>::split(alloc, blank, 1)?;
