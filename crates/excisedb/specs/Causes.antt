@@ -1,19 +1,22 @@
 -- Calls of the program that have ended, and the statuses that a cause may end with.
 use Rattle.std.specs.Prelude.{◌≡◌, ◌⊎◌, ℕ, ◌+◌, Option, List, take}
 use Rattle.xdb_script.specs.Grammar.{most_bytes}
+use Rattle.excisedb.specs.Devices.{DeviceSeen}
 use Rattle.excisedb.specs.Ends.{Ends}
 use Rattle.excisedb.specs.declared.status.Status.{Status}
 use Rattle.excisedb.specs.declared.status.Status.TheVariants.{ReadFault, WriteFault, Memory}
 
--- what the source had left before and after it, and what the sink had
-pub record Call : Type 0 where
+-- what the source had left before and after it, what the sink had, and the devices, whose files tell their bytes or not
+pub record Call (told : Type 0) : Type 0 where
   pub status : Status
   pub words : List (List ℕ)
   pub left : Option (List ℕ)
   pub left' : Option (List ℕ)
   pub old : Option (List ℕ)
   pub new : Option (List ℕ)
-  pub ends : Ends status words left left' old new
+  pub devs : List DeviceSeen
+  pub devs' : List DeviceSeen
+  pub ends : Ends status words left left' old new told devs devs'
 
 -- the cause's own status, or that of a failed write or of want of memory
 abbrev pub OrFails : Status → Status → Type 0

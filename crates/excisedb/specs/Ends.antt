@@ -1,8 +1,9 @@
 -- What a call of the program has read and written when it ends, by its status.
-use Rattle.std.specs.Prelude.{◌≡◌, ◌≢◌, ◌⊎◌, ℕ, ◌+◌, ◌≤◌, Option, Some, None, List, [], ◌∷◌, ◌++◌, length, take, Result, Ok, Err, codes}
+use Rattle.std.specs.Prelude.{◌≡◌, ◌≢◌, ◌⊎◌, ℕ, ◌+◌, ◌≤◌, false, Option, Some, None, List, [], ◌∷◌, ◌++◌, length, take, Result, Ok, Err, codes}
 use Rattle.std.specs.Fmt.{decimal}
 use Rattle.std.specs.Option.{option_map}
 use Rattle.std.specs.Io.KnownBytes.{Appends, Consumes, IsAtEnd}
+use Rattle.xdb_plain.specs.Failures.{faults, has_damage}
 use Rattle.xdb_plain.specs.Legal.{IsRight}
 use Rattle.xdb_plain.specs.Printed.{text_of}
 use Rattle.xdb_plain.specs.Runs.{IsRunOf}
@@ -14,6 +15,8 @@ use Rattle.xdb_script.specs.declared.error.Why.{Why}
 use Rattle.xdb_script.specs.declared.error.Why.TheVariants as why
 use Rattle.xdb_script.specs.declared.form.ScriptForm.TheVariants.{Run}
 use Rattle.xdb_run.specs.Built.{first_unbuilt}
+use Rattle.xdb_run.specs.Outside.{RoseBy}
+use Rattle.excisedb.specs.Devices.{DeviceSeen, first}
 use Rattle.excisedb.specs.declared.status.Status.{Status}
 use Rattle.excisedb.specs.declared.status.Status.TheVariants.{Done, Words, Script, ReadFault, WriteFault, Memory}
 
@@ -53,15 +56,22 @@ pub record AreRead (left left' : Option (List ℕ)) (bytes : List ℕ) : Type 0 
   pub within : length bytes ≤ most_bytes + 1
   pub whole : IsAtEnd left' ⊎ (length bytes ≡ most_bytes + 1)
 
--- The text is that of a history which is right and is a run of the script that the bytes spell.
-pub record IsReply (bytes text : List ℕ) : Type 0 where
-  pub lines : List Line
+-- The text is that of a history which is right and is a run of these lines. It tells of at most as many faults as the
+-- device's count rose by, and of no damage where files tell their bytes.
+pub record IsRunText (told : Type 0) (dev dev' : DeviceSeen) (lines : List Line) (text : List ℕ) : Type 0 where
   pub notes : List Note
-  pub spelled : Spells Run bytes lines
-  pub built : first_unbuilt lines ≡ None
   pub right : IsRight 1 1 notes
   pub run : IsRunOf 1 1 lines notes
+  pub faults : RoseBy (faults notes) dev.faults dev'.faults
+  pub undamaged : told → has_damage notes ≡ false
   pub printed : text ≡ text_of notes
+
+-- The bytes spell a script, and the text is that of its run.
+pub record IsReply (told : Type 0) (dev dev' : DeviceSeen) (bytes text : List ℕ) : Type 0 where
+  pub lines : List Line
+  pub spelled : Spells Run bytes lines
+  pub built : first_unbuilt lines ≡ None
+  pub text_is : IsRunText told dev dev' lines text
 
 -- The bytes spell no script, or one with a verb that isn't built, and the text names the first such line.
 pub record IsRefusal (bytes text : List ℕ) : Type 0 where
@@ -82,10 +92,10 @@ pub record IsAnswered (P : List ℕ → List ℕ → Type 0) (words : List (List
   pub read : AreRead left left' bytes
   pub text_is : P bytes text
 
--- the texts that a call may write
-abbrev pub MayWrite : List (List ℕ) → Option (List ℕ) → Option (List ℕ) → List ℕ → Type 0
-MayWrite words left left' text =
-    IsUsage words left left' text ⊎ (IsAnswered IsRefusal words left left' text ⊎ IsAnswered IsReply words left left' text)
+-- The texts that a call may write. A run is on the first device.
+abbrev pub MayWrite : List (List ℕ) → Option (List ℕ) → Option (List ℕ) → Type 0 → List DeviceSeen → List DeviceSeen → List ℕ → Type 0
+MayWrite words left left' told devs devs' text =
+    IsUsage words left left' text ⊎ (IsAnswered IsRefusal words left left' text ⊎ IsAnswered (IsReply told (first devs) (first devs')) words left left' text)
 
 -- a text was written whole, which is of this kind
 pub record WritesWhole (kind : List ℕ → Type 0) (old new : Option (List ℕ)) : Type 0 where
@@ -101,11 +111,12 @@ pub record WritesPart (kind : List ℕ → Type 0) (old new : Option (List ℕ))
   pub within : count ≤ length text
   pub written : Appends old new (take count text)
 
--- By status: the words, what the source had left before and after, and what the sink had before and after.
-abbrev pub Ends : Status → List (List ℕ) → Option (List ℕ) → Option (List ℕ) → Option (List ℕ) → Option (List ℕ) → Type 0
-Ends Done words left left' old new = WritesWhole (IsAnswered IsReply words left left') old new
-Ends Words words left left' old new = WritesWhole (IsUsage words left left') old new
-Ends Script words left left' old new = WritesWhole (IsAnswered IsRefusal words left left') old new
-Ends ReadFault words left left' old new = (words ≡ run_words) × (new ≡ old)
-Ends WriteFault words left left' old new = WritesPart (MayWrite words left left') old new
-Ends Memory words left left' old new = (new ≡ old) ⊎ WritesPart (MayWrite words left left') old new
+-- By status: the words, what the source had left before and after, what the sink had before and after, that files tell
+-- their bytes, and the devices before and after.
+abbrev pub Ends : Status → List (List ℕ) → Option (List ℕ) → Option (List ℕ) → Option (List ℕ) → Option (List ℕ) → Type 0 → List DeviceSeen → List DeviceSeen → Type 0
+Ends Done words left left' old new told devs devs' = WritesWhole (IsAnswered (IsReply told (first devs) (first devs')) words left left') old new
+Ends Words words left left' old new told devs devs' = WritesWhole (IsUsage words left left') old new
+Ends Script words left left' old new told devs devs' = WritesWhole (IsAnswered IsRefusal words left left') old new
+Ends ReadFault words left left' old new told devs devs' = (words ≡ run_words) × (new ≡ old)
+Ends WriteFault words left left' old new told devs devs' = WritesPart (MayWrite words left left' told devs devs') old new
+Ends Memory words left left' old new told devs devs' = (new ≡ old) ⊎ WritesPart (MayWrite words left left' told devs devs') old new

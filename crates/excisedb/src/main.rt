@@ -18,6 +18,6 @@ use xdb_device::{StdSink, StdSource};
 fn main(rt: HostRuntime) -> ExitCode {
     let mut script = StdSource::new(rt.stdin());
     let mut out = StdSink::new(rt.stdout());
-    let devs = devices::of_folder(rt);
-    exit_code(rt.alloc(), env::args(&rt), &mut script, &mut out, devs)
+    let mut devs = devices::of_folder(rt);
+    exit_code(rt.alloc(), env::args(&rt), &mut script, &mut out, &mut devs)
 }

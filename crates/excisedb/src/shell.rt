@@ -2,6 +2,8 @@
 ghost use Rattle.std.specs.Prelude.{◌≡◌, ◌≢◌, ◌<◌, vec_len, IfOk, IsErr};
 ghost use Rattle.std.specs.Process.{exit_status};
 ghost use Rattle.xdb_device.specs.Faults.{Rose};
+ghost use Rattle.xdb_engine.specs.Files.{AreTold};
+ghost use Rattle.excisedb.specs.Devices.{devices_of};
 ghost use Rattle.excisedb.specs.Ends.{Ends, run_words};
 ghost use Rattle.excisedb.specs.Exits.{Exits};
 ghost use Rattle.excisedb.specs.Words.{words_of, LacksMemory};
@@ -22,12 +24,15 @@ pub fn exit_code<S: Source, K: Sink, D: Device + Drop>(
     args: io::Result<Args>,
     script: &mut S,
     out: &mut K,
-    devs: Result<Vec<D>, AllocError>,
+    devs: &mut Result<Vec<D>, AllocError>,
 ) -> ExitCode
-    requires devices { IfOk devs (λ devs. vec_len devs ≡ 16) }
+    requires devices { IfOk devs.old (λ devs. vec_len devs ≡ 16) }
 
     // What was read and written, by the exit code.
-    ensures exits { Exits (exit_status result) (words_of args) (S.left script.old) (S.left script.new) (K.written out.old) (K.written out.new) }
+    ensures exits { Exits (exit_status result) (words_of args)
+        (S.left script.old) (S.left script.new) (K.written out.old) (K.written out.new)
+        (AreTold D.File.bytes)
+        (devices_of D.faults D.told devs.old) (devices_of D.faults D.told devs.new) }
 
     // 3 and 4 exactly where the counts of faults say so.
     ensures read_fault { exit_status result ≡ 3 → Rose (S.faults script.old) (S.faults script.new) }
@@ -37,7 +42,7 @@ pub fn exit_code<S: Source, K: Sink, D: Device + Drop>(
 
     // 5 where there was no memory for the words or for the devices.
     ensures no_words { LacksMemory args → exit_status result ≡ 5 }
-    ensures no_devices { IsErr devs → exit_status result ≡ 5 }
+    ensures no_devices { IsErr devs.old → exit_status result ≡ 5 }
 
     ensures alone { words_of args ≢ run_words → script.new ≡ script.old }
 {
@@ -49,20 +54,23 @@ fn status<S: Source, K: Sink, D: Device + Drop>(
     args: io::Result<Args>,
     script: &mut S,
     out: &mut K,
-    devs: Result<Vec<D>, AllocError>,
+    devs: &mut Result<Vec<D>, AllocError>,
 ) -> Status
-    requires devices { IfOk devs (λ devs. vec_len devs ≡ 16) }
-    ensures ends { Ends result (words_of args) (S.left script.old) (S.left script.new) (K.written out.old) (K.written out.new) }
+    requires devices { IfOk devs.old (λ devs. vec_len devs ≡ 16) }
+    ensures ends { Ends result (words_of args)
+        (S.left script.old) (S.left script.new) (K.written out.old) (K.written out.new)
+        (AreTold D.File.bytes)
+        (devices_of D.faults D.told devs.old) (devices_of D.faults D.told devs.new) }
     ensures read_fault { result ≡ Status.ReadFault → Rose (S.faults script.old) (S.faults script.new) }
     ensures read_failed { S.faults script.old < S.faults script.new → result ≡ Status.ReadFault }
     ensures write_fault { result ≡ Status.WriteFault → Rose (K.faults out.old) (K.faults out.new) }
     ensures write_failed { K.faults out.old < K.faults out.new → result ≡ Status.WriteFault }
     ensures no_words { LacksMemory args → result ≡ Status.Memory }
-    ensures no_devices { IsErr devs → result ≡ Status.Memory }
+    ensures no_devices { IsErr devs.old → result ≡ Status.Memory }
     ensures alone { words_of args ≢ run_words → script.new ≡ script.old }
 {
     match (words::given(alloc, args), devs) {
-        (Ok(words), Ok(mut devs)) => top(alloc, &words, script, out, &mut devs),
+        (Ok(words), Ok(devs)) => top(alloc, &words, script, out, devs),
         _ => Status::Memory,
     }
 }

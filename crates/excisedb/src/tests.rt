@@ -46,7 +46,8 @@ fn exit_is(
 ) -> Result<bool, AllocError> {
     let mut source = MemSource::new(SCRIPT.to_vec(alloc)?, [pull].to_vec(alloc)?);
     let mut sink = MemSink::new(alloc, 5, [push].to_vec(alloc)?);
-    let exit = exit_code(alloc, args, &mut source, &mut sink, devices(alloc));
+    let mut devs = devices(alloc);
+    let exit = exit_code(alloc, args, &mut source, &mut sink, &mut devs);
     Ok(exit == ExitCode::from(code) && sink.bytes() == text)
 }
 

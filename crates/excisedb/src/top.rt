@@ -1,6 +1,8 @@
 //! From words and a script to what is written.
 ghost use Rattle.std.specs.Prelude.{◌≡◌, ◌≢◌, ◌<◌, map, string_bytes, vec_len, IfOk, IsTrue};
 ghost use Rattle.xdb_device.specs.Faults.{Rose};
+ghost use Rattle.xdb_engine.specs.Files.{AreTold};
+ghost use Rattle.excisedb.specs.Devices.{device_seen, devices_seen};
 ghost use Rattle.excisedb.specs.Ends.{run_words, usage_text, refusal_text, why_word, Ends};
 ghost use Rattle.excisedb.specs.Outcome.{Replies, RepliesTo, IsSent};
 
@@ -31,7 +33,10 @@ pub fn top<S: Source, K: Sink, D: Device>(
     requires devices { vec_len devs.old ≡ 16 }
 
     // What was read and written, by the status.
-    ensures ends { Ends result (map string_bytes words.now) (S.left script.old) (S.left script.new) (K.written out.old) (K.written out.new) }
+    ensures ends { Ends result (map string_bytes words.now)
+        (S.left script.old) (S.left script.new) (K.written out.old) (K.written out.new)
+        (AreTold D.File.bytes)
+        (devices_seen D.faults D.told devs.old.items) (devices_seen D.faults D.told devs.new.items) }
 
     // Faults are told only where they came about, and everywhere there.
     ensures read_fault { result ≡ Status.ReadFault → Rose (S.faults script.old) (S.faults script.new) }
@@ -65,7 +70,9 @@ fn reply_to<D: Device>(
     bytes: Vec<u8>,
     dev: &mut D,
 ) -> Result<(Status, Vec<u8>), AllocError>
-    ensures reply { IfOk result (λ reply. Replies bytes.items reply.0 reply.1.items) }
+    ensures reply { IfOk result (λ reply. Replies (AreTold D.File.bytes)
+        (device_seen D.faults D.told dev.old) (device_seen D.faults D.told dev.new)
+        bytes.items reply.0 reply.1.items) }
     ensures device { dev.new ≡ dev.old }
 {
     match parse(alloc, &bytes, ScriptForm::Run) {
@@ -88,7 +95,9 @@ fn reply_to_script<D: Device>(
     script: Script,
     dev: &mut D,
 ) -> Result<(Status, Vec<u8>), AllocError>
-    ensures reply { IfOk result (λ reply. RepliesTo script reply.0 reply.1.items) }
+    ensures reply { IfOk result (λ reply. RepliesTo (AreTold D.File.bytes)
+        (device_seen D.faults D.told dev.old) (device_seen D.faults D.told dev.new)
+        script reply.0 reply.1.items) }
     ensures device { dev.new ≡ dev.old }
 {
     match first_unbuilt(&script) {

@@ -18,6 +18,7 @@ use Rattle.xdb_mem.proofs.ContentLaws.{items-clear}
 use Rattle.xdb_order.specs.Desk.{fresh_story}
 use Rattle.xdb_plain.specs.Answers.{answer_now}
 use Rattle.xdb_plain.specs.Changes.{after, new_question}
+use Rattle.xdb_plain.specs.Failures.{is_failure_outside}
 use Rattle.xdb_plain.specs.Legal.{AnswersRight}
 use Rattle.xdb_plain.specs.Outcomes.{outcome, is_refused}
 use Rattle.xdb_plain.proofs.RefusalLaws.{refused-after}
@@ -38,7 +39,7 @@ use Rattle.xdb_rangedel.specs.Content.{IsClear}
 use Rattle.xdb_read.specs.Fits.{content, parts_map, meant}
 use Rattle.xdb_read.specs.declared.parts.ReadParts.{ReadParts}
 use Rattle.xdb_engine.specs.Asks.{ArePartsOf, Leaves, IsAsked}
-use Rattle.xdb_engine.specs.Notes.{plain_note, is_fault}
+use Rattle.xdb_engine.specs.Notes.{plain_note}
 use Rattle.xdb_engine.specs.Questions.{Asking, asking, found, heard, FitsGiven}
 use Rattle.xdb_engine.specs.Seen.{Seen, plain_of}
 use Rattle.xdb_engine.specs.Stands.{Core, IsNumbered, IsQuiet, Agrees, Means}
@@ -175,7 +176,7 @@ module _ {F : Type 0} (c : Core F) (p : Plain) (by : By) (question : Question) (
   -- ---- a question that isn't opened
 
   -- such a step leaves the state: no question has the number 0
-  still-asked : (reply : Reply) → is_refused p (act.Ask 0 question parted) (outcome reply) ≡ true → MayStand p (ask_note 0 reply) → AnswersRight p (act.Ask 0 question parted) reply → is_fault reply ≡ false → Step c p (ask_note 0 reply)
+  still-asked : (reply : Reply) → is_refused p (act.Ask 0 question parted) (outcome reply) ≡ true → MayStand p (ask_note 0 reply) → AnswersRight p (act.Ask 0 question parted) reply → is_failure_outside reply ≡ false → Step c p (ask_note 0 reply)
   still-asked reply refused stands answers calm =
       still-step c p (ask_note 0 reply) a m stands answers calm (refused-after p (ask_note 0 reply) stands refl refused)
 

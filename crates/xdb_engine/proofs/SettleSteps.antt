@@ -309,37 +309,38 @@ module _ {F : Type 0} (c : Core F) (p : Plain) (a : Agrees c p) (m : Means c p) 
 
 -- ---- an engine between steps
 
-pub looked-stands : {F : Type 0} (c : Core F) (h : Recorded) (book ask : ℕ) (q : Asking F) (story : Story) (kept : Option ReadDone) → Stands c h book → found ask c.questions ≡ Some q → IfSome kept (ReadFits q.given) → Stands (record c { questions = replaced (looked q story kept) c.questions }) h book
+pub looked-stands : {F told : Type 0} (c : Core F) (h : Recorded) (book ask : ℕ) (q : Asking F) (story : Story) (kept : Option ReadDone) → Stands told c h book → found ask c.questions ≡ Some q → IfSome kept (ReadFits q.given) → Stands told (record c { questions = replaced (looked q story kept) c.questions }) h book
 looked-stands c h book ask q story kept s there fits = record {
   right = s.right;
   agrees = looked-agrees c (state_of h) s.agrees s.means ask q story kept there;
   means = looked-means c (state_of h) s.agrees s.means ask q story kept there fits;
   booked = s.booked;
+  undamaged = s.undamaged;
 }
 
-same-stands : {F : Type 0} (c : Core F) (h : Recorded) (book : ℕ) (new : List (Asking F)) → Stands c h book → new ≡ c.questions → Stands (record c { questions = new }) h book
-same-stands c h book new s e = subst (λ x. Stands (record c { questions = x }) h book) (sym e) s
+same-stands : {F told : Type 0} (c : Core F) (h : Recorded) (book : ℕ) (new : List (Asking F)) → Stands told c h book → new ≡ c.questions → Stands told (record c { questions = new }) h book
+same-stands {F} {told} c h book new s e = subst (λ x. Stands told (record c { questions = x }) h book) (sym e) s
 
-found-kept : {F : Type 0} (c : Core F) (h : Recorded) (book ask : ℕ) (q : Asking F) (kept : Option ReadDone) (new : List (Asking F)) (b : Bool) → Stands c h book → found ask c.questions ≡ Some q → LooksAt kept q c.questions new b → Stands (record c { questions = new }) h book
+found-kept : {F told : Type 0} (c : Core F) (h : Recorded) (book ask : ℕ) (q : Asking F) (kept : Option ReadDone) (new : List (Asking F)) (b : Bool) → Stands told c h book → found ask c.questions ≡ Some q → LooksAt kept q c.questions new b → Stands told (record c { questions = new }) h book
 found-kept c h book ask q (Some done) new b s there looks = same-stands c h book new s looks.0
-found-kept c h book ask q None new b s there looks =
-    subst (λ x. Stands (record c { questions = x }) h book) (sym looks.leaves) (looked-stands c h book ask q looks.story looks.kept s there looks.fits)
+found-kept {F} {told} c h book ask q None new b s there looks =
+    subst (λ x. Stands told (record c { questions = x }) h book) (sym looks.leaves) (looked-stands c h book ask q looks.story looks.kept s there looks.fits)
 
-look-by : {F : Type 0} (c : Core F) (h : Recorded) (book ask : ℕ) (o : Option (Asking F)) (new : List (Asking F)) (b : Bool) → Stands c h book → found ask c.questions ≡ o → LooksFor o c.questions new b → Stands (record c { questions = new }) h book
+look-by : {F told : Type 0} (c : Core F) (h : Recorded) (book ask : ℕ) (o : Option (Asking F)) (new : List (Asking F)) (b : Bool) → Stands told c h book → found ask c.questions ≡ o → LooksFor o c.questions new b → Stands told (record c { questions = new }) h book
 look-by c h book ask None new b s is looks = same-stands c h book new s looks.0
 look-by c h book ask (Some q) new b s is looks = found-kept c h book ask q q.kept new b s is looks
 
-pub look-stands : {F : Type 0} (c : Core F) (h : Recorded) (book : ℕ) (id : Id) (new : List (Asking F)) (b : Bool) → Stands c h book → LooksFor (found_by id c.questions) c.questions new b → Stands (record c { questions = new }) h book
+pub look-stands : {F told : Type 0} (c : Core F) (h : Recorded) (book : ℕ) (id : Id) (new : List (Asking F)) (b : Bool) → Stands told c h book → LooksFor (found_by id c.questions) c.questions new b → Stands told (record c { questions = new }) h book
 look-stands c h book (ids.Ask ask) new b s looks = look-by c h book ask (found ask c.questions) new b s refl looks
 look-stands c h book (ids.Job job) new b s looks = same-stands c h book new s looks.0
 look-stands c h book (ids.Load load) new b s looks = same-stands c h book new s looks.0
 
-brought-by : {F : Type 0} (c : Core F) (h : Recorded) (book ask : ℕ) (o : Option (Asking F)) (done : ReadDone) (new : List (Asking F)) → Stands c h book → found ask c.questions ≡ o → is_some o ≡ true → IfSome o (λ q. ReadFits q.given done) → IfSome o (λ q. new ≡ replaced (looked q q.story (Some done)) c.questions) → Stands (record c { questions = new }) h book
+brought-by : {F told : Type 0} (c : Core F) (h : Recorded) (book ask : ℕ) (o : Option (Asking F)) (done : ReadDone) (new : List (Asking F)) → Stands told c h book → found ask c.questions ≡ o → is_some o ≡ true → IfSome o (λ q. ReadFits q.given done) → IfSome o (λ q. new ≡ replaced (looked q q.story (Some done)) c.questions) → Stands told (record c { questions = new }) h book
 brought-by c h book ask None done new s is some fits made = absurd (false≢true some)
-brought-by c h book ask (Some q) done new s is some fits made =
-    subst (λ x. Stands (record c { questions = x }) h book) (sym made) (looked-stands c h book ask q q.story (Some done) s is fits)
+brought-by {F} {told} c h book ask (Some q) done new s is some fits made =
+    subst (λ x. Stands told (record c { questions = x }) h book) (sym made) (looked-stands c h book ask q q.story (Some done) s is fits)
 
-pub brought-stands : {F : Type 0} (c : Core F) (h : Recorded) (book : ℕ) (id : Id) (done : ReadDone) (new : List (Asking F)) → Stands c h book → is_some (found_by id c.questions) ≡ true → IfSome (found_by id c.questions) (λ q. ReadFits q.given done) → IfSome (found_by id c.questions) (λ q. new ≡ replaced (looked q q.story (Some done)) c.questions) → Stands (record c { questions = new }) h book
+pub brought-stands : {F told : Type 0} (c : Core F) (h : Recorded) (book : ℕ) (id : Id) (done : ReadDone) (new : List (Asking F)) → Stands told c h book → is_some (found_by id c.questions) ≡ true → IfSome (found_by id c.questions) (λ q. ReadFits q.given done) → IfSome (found_by id c.questions) (λ q. new ≡ replaced (looked q q.story (Some done)) c.questions) → Stands told (record c { questions = new }) h book
 brought-stands c h book (ids.Ask ask) done new s some fits made = brought-by c h book ask (found ask c.questions) done new s refl some fits made
 brought-stands c h book (ids.Job job) done new s some fits made = absurd (false≢true some)
 brought-stands c h book (ids.Load load) done new s some fits made = absurd (false≢true some)

@@ -1,4 +1,5 @@
 -- What is seen of an engine, what its calls do to that, and what it keeps.
+pub mod Files
 pub mod Notes
 pub mod Questions
 pub mod Commits

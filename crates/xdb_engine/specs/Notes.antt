@@ -1,11 +1,10 @@
 -- Notes of steps that change no tables.
-use Rattle.std.specs.Prelude.{ℕ, ◌+◌, Bool, true, false, List, [], ◌∷◌, None, if◌then◌else◌}
+use Rattle.std.specs.Prelude.{Bool, true, false, [], None}
 use Rattle.xdb_plain.specs.declared.act.Act.{Act}
 use Rattle.xdb_plain.specs.declared.act.Act.TheVariants as act
 use Rattle.xdb_plain.specs.declared.act.By.{By}
 use Rattle.xdb_plain.specs.declared.note.Note.{Note}
 use Rattle.xdb_plain.specs.declared.reply.Reply.{Reply}
-use Rattle.xdb_plain.specs.declared.reply.Reply.TheVariants.{Fault, Stuck}
 
 -- a note without an edit, holds and tried numbers
 abbrev pub plain_note : By → Act → Reply → Note
@@ -16,14 +15,3 @@ abbrev pub is_work : Act → Bool
 is_work (act.Build job) = true
 is_work (act.Work ask) = true
 is_work _ = false
-
--- the note tells a failure of a device
-abbrev pub is_fault : Reply → Bool
-is_fault Fault = true
-is_fault Stuck = true
-is_fault _ = false
-
--- how many notes tell one
-abbrev pub faults : List Note → ℕ
-faults [] = 0
-faults (note ∷ notes) = (if is_fault note.reply then 1 else 0) + faults notes

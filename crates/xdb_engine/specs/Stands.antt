@@ -1,11 +1,11 @@
 -- What every engine keeps.
-use Rattle.std.specs.Prelude.{◌≡◌, ℕ, ◌<◌, ◌≤◌, ◌^◌, List, [], map, All, IsTrue}
-use Rattle.xdb_engine.specs.Notes.{faults}
+use Rattle.std.specs.Prelude.{◌≡◌, ℕ, ◌<◌, ◌≤◌, ◌^◌, false, List, [], map, All, IsTrue}
 use Rattle.xdb_engine.specs.Questions.{Asking, heard, FitsGiven}
 use Rattle.xdb_history.specs.Recorded.{Recorded, state_of}
 use Rattle.xdb_mem.specs.Numbered.{RisesWithin}
 use Rattle.xdb_mem.specs.Parts.{items}
 use Rattle.xdb_mem.specs.Queue.{Queue, groups, all_ops}
+use Rattle.xdb_plain.specs.Failures.{faults, has_damage}
 use Rattle.xdb_plain.specs.Legal.{Right}
 use Rattle.xdb_plain.specs.State.{Plain, opening}
 use Rattle.xdb_plain.specs.Steps.{is_client}
@@ -62,8 +62,10 @@ pub record Means {F : Type 0} (c : Core F) (p : Plain) : Type 0 where
   -- what is kept for a question fits what was handed out for it
   pub fits : All FitsGiven c.questions
 
-pub record Stands {F : Type 0} (c : Core F) (h : Recorded) (book : ℕ) : Type 0 where
+-- `told` says that the files tell their bytes.
+pub record Stands {F : Type 0} (told : Type 0) (c : Core F) (h : Recorded) (book : ℕ) : Type 0 where
   pub right : Right (opening h.first_seq h.first_file) h.notes
   pub agrees : Agrees c (state_of h)
   pub means : Means c (state_of h)
   pub booked : book ≡ faults h.notes
+  pub undamaged : told → has_damage h.notes ≡ false

@@ -1,7 +1,8 @@
 //! The engine and its calls.
-ghost use Rattle.std.specs.Prelude.{◌≡◌, ◌+◌, ◌*◌, ◌≤◌, ◌^◌, ◌++◌, ◌∷◌, [], length, map, All, IsTrue, IsSome, IfSome, OnOk, OnErr, Some, None};
+ghost use Rattle.std.specs.Prelude.{◌≡◌, ◌+◌, ◌*◌, ◌≤◌, ◌^◌, ◌++◌, ◌∷◌, [], false, length, map, All, IsTrue, IsSome, IfSome, OnOk, OnErr, Some, None};
 ghost use Rattle.std.specs.Option.{option_map, option_copied};
 ghost use Rattle.xdb_plain.specs.Counts.{dead};
+ghost use Rattle.xdb_plain.specs.Failures.{faults, has_damage};
 ghost use Rattle.xdb_plain.specs.Fences.{fence_touched};
 ghost use Rattle.xdb_plain.specs.Legal.{IsRight};
 ghost use Rattle.xdb_plain.specs.Steps.{is_client, asked_number};
@@ -9,7 +10,8 @@ ghost use Rattle.xdb_plain.specs.declared.act.Act.TheVariants as act;
 ghost use Rattle.xdb_plain.specs.declared.act.By.TheVariants.{Client, Db};
 ghost use Rattle.xdb_plain.specs.declared.reply.Reply.TheVariants as reply;
 ghost use Rattle.xdb_engine.specs.Asks.{IsAskedOf};
-ghost use Rattle.xdb_engine.specs.Notes.{plain_note, is_work, faults};
+ghost use Rattle.xdb_engine.specs.Files.{AreTold};
+ghost use Rattle.xdb_engine.specs.Notes.{plain_note, is_work};
 ghost use Rattle.xdb_engine.specs.Questions.{found, without, replaced, looked, heard, failure_note, failure_leaves, settle_act, settle_reply, settle_leaves, LooksFor, FitsGiven, found_by, is_kept};
 ghost use Rattle.xdb_engine.specs.Stands.{IsNumbered};
 ghost use Rattle.xdb_engine.specs.Seen.{plain_of, Adds, with_questions, lent, FitsQuestion, IsBrought};
@@ -48,6 +50,7 @@ pub struct Engine<F: FileRef, L: Ledger> {
 }
 
 impl<F: FileRef, L: Ledger> Model for Engine<F, L> {
+    ghost use Rattle.xdb_engine.specs.Files.{AreTold};
     ghost use Rattle.xdb_engine.specs.Seen.{Seen};
     ghost use Rattle.xdb_engine.specs.Stands.{Core, Stands};
 
@@ -62,7 +65,7 @@ impl<F: FileRef, L: Ledger> Model for Engine<F, L> {
       book = e.book;
     } };
 
-    ghost invariant = { λ e. Stands (record { queue = e.queue; next = e.next; file = e.file; asked = e.asked; questions = e.questions.items }) e.history e.book };
+    ghost invariant = { λ e. Stands (AreTold F.bytes) (record { queue = e.queue; next = e.next; file = e.file; asked = e.asked; questions = e.questions.items }) e.history e.book };
 }
 
 impl<F: FileRef, L: Ledger> Engine<F, L> {
@@ -120,7 +123,9 @@ impl<F: FileRef, L: Ledger> Engine<F, L> {
         ensures numbered { All (IsNumbered (plain_of self.now).asked) self.now.questions }
         // What is kept for one fits what was handed out for it.
         ensures fits { All FitsGiven self.now.questions }
+        // The book is the number of failures of devices that the notes tell.
         ensures book { self.now.book ≡ faults self.now.notes }
+        ensures undamaged { AreTold F.bytes → has_damage self.now.notes ≡ false }
     {
         self.history.notes()
     }
@@ -132,6 +137,10 @@ impl<F: FileRef, L: Ledger> Engine<F, L> {
         ensures notes { result.0.notes ≡ self.notes }
         ensures book { result.1 ≡ self.book }
         ensures right { IsRight self.first_seq self.first_file self.notes }
+        // The notes tell of as many failures of devices as were booked, and of no damage over files
+        // that tell their bytes.
+        ensures booked { result.1 ≡ faults self.notes }
+        ensures undamaged { AreTold F.bytes → has_damage self.notes ≡ false }
         // No file is there yet that could be removed.
         ensures clean { dead (plain_of self) ≡ [] }
     {

@@ -1,3 +1,4 @@
--- Which scripts can be run, and how far a run has come.
+-- Which scripts can be run, how far a run has come, and what its devices bear out.
 pub mod Built
+pub mod Outside
 pub mod Running

@@ -1,9 +1,12 @@
 //! A script from its first line to its last.
-ghost use Rattle.std.specs.Prelude.{◌≡◌, [], IsTrue, None, IfOk, OnOk};
+ghost use Rattle.std.specs.Prelude.{◌≡◌, [], false, IsTrue, None, IfOk, OnOk};
 ghost use Rattle.std.specs.List.{list_all};
+ghost use Rattle.xdb_engine.specs.Files.{AreTold};
+ghost use Rattle.xdb_plain.specs.Failures.{faults, has_damage};
 ghost use Rattle.xdb_plain.specs.Legal.{IsRight};
 ghost use Rattle.xdb_plain.specs.Runs.{IsRunOf};
 ghost use Rattle.xdb_run.specs.Built.{first_unbuilt, is_run};
+ghost use Rattle.xdb_run.specs.Outside.{RoseBy};
 ghost use Rattle.xdb_run.specs.Running.{HasTaken};
 
 use crate::{RunNo, lines};
@@ -21,6 +24,14 @@ pub fn run_script<D: Device>(alloc: Global, script: Script, dev: &mut D) -> Resu
     requires built { first_unbuilt script ≡ None }
     ensures right { IfOk result (λ history. IsRight 1 1 history.notes) }
     ensures run { IfOk result (λ history. IsRunOf 1 1 script history.notes) }
+
+    // Faults are told only as far as the device's count rose, and damage only over files that don't
+    // tell their bytes.
+    ensures faults { IfOk result (λ history.
+        RoseBy (faults history.notes) (D.faults dev.old) (D.faults dev.new)) }
+    ensures undamaged { AreTold D.File.bytes
+        → IfOk result (λ history. has_damage history.notes ≡ false) }
+
     ensures alone { dev.new ≡ dev.old }
 {
     run_script_named::<D, Brand>(alloc, Blank::new(1), script, dev)
@@ -39,13 +50,19 @@ pub fn run_script_named<D: Device, L: Ledger>(
     requires built { first_unbuilt script ≡ None }
     ensures right { IfOk result (λ history. IsRight 1 1 history.notes) }
     ensures run { IfOk result (λ history. IsRunOf 1 1 script history.notes) }
+    ensures faults { IfOk result (λ history.
+        RoseBy (faults history.notes) (D.faults _dev.old) (D.faults _dev.new)) }
+    ensures undamaged { AreTold D.File.bytes
+        → IfOk result (λ history. has_damage history.notes ≡ false) }
     ensures alone { _dev.new ≡ _dev.old }
 {
-    let (book, _shares) = FaultBook::<L>::split(alloc, blank, 1)?;
+    let (book, shares) = FaultBook::<L>::split(alloc, blank, 1)?;
     let mut engine: Engine<D::File, L> = Engine::new(alloc, 1, 1, book);
     take_all(alloc, &mut engine, script.into_lines())?;
     // No file is there yet that could be removed.
-    let (history, _book) = engine.into_history();
+    let (history, mut book) = engine.into_history();
+    // What the notes tell of faults is in the book, which is the sum of its shares.
+    book.sum(shares);
     Ok(history)
 }
 
