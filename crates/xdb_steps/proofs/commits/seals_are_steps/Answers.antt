@@ -1,0 +1,5 @@
+use Rattle.xdb_steps.proofs.SealSteps.{sealed, nothing}
+use Rattle.xdb_steps.proofs.commits.seals_are_steps.Goals as goal
+
+pub returns : goal.returns
+returns c = record { group = sealed; nothing = nothing }

@@ -1,0 +1,5 @@
+//! What each kind of step keeps of an engine's parts: laws over plain data, each a function that does nothing.
+#![tactic(auto)]
+
+pub mod asks;
+pub mod commits;
