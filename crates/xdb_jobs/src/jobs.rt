@@ -94,9 +94,7 @@ impl<H> Jobs<H> {
     pub fn cancel(&mut self, span: &KeyRange, load: Name)
         ensures { self.new ≡ map (with_canceller load span.now) self.old }
     {
-        for job in &mut self.jobs {
-            job.cancel(span, load);
-        }
+        cancel_all(&mut self.jobs, span, load);
     }
 }
 
@@ -147,6 +145,14 @@ fn make_room<H>(jobs: &mut Vec<Job<H>>, hulls: &mut Vec<KeyRange>) -> Result<(),
     jobs.try_reserve(1)?;
     hulls.try_reserve(1)?;
     Ok(())
+}
+
+fn cancel_all<H>(jobs: &mut [Job<H>], span: &KeyRange, load: Name)
+    ensures { jobs.new ≡ map (with_canceller load span.now) jobs.old }
+{
+    for job in jobs.iter_mut() {
+        job.cancel(span, load);
+    }
 }
 
 /// The place of the job of this number.
