@@ -1,5 +1,5 @@
 //! The fences of open loads.
-ghost use Rattle.std.specs.Prelude.{◌≡◌, ◌++◌, [], ◌∷◌, None, IfOk, OnErr};
+ghost use Rattle.std.specs.Prelude.{◌≡◌, ◌++◌, [], ◌∷◌, None, IfOk, OnErr, option_copied};
 ghost use Rattle.std.specs.List.{list_any};
 ghost use Rattle.xdb_key.specs.Bounds.{meets};
 ghost use Rattle.xdb_key.specs.Ops.{touches};
@@ -85,6 +85,14 @@ impl Fences {
         &self.fences
     }
 
+    /// The fence of the load, where it has one.
+    pub fn get(&self, load: Name) -> Option<&Fence>
+        ensures { option_copied result ≡ found_fence load self.now }
+    {
+        self.fences.iter().find(|fence| fence.is_of(&load))
+    }
+
+    /// Opens the fence of a load that has none, behind the others.
     pub fn open(&mut self, load: Name, ranges: Vec<KeyRange>) -> Result<(), AllocError>
         requires { found_fence load self.old ≡ None }
         ensures opened { IfOk result (λ _. self.new ≡ self.old ++ fence load ranges.items ∷ []) }

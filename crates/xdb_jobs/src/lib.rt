@@ -9,5 +9,5 @@ pub use fences::{Fence, Fences};
 pub use jobs::{Job, Jobs};
 pub use std::alloc::AllocError as Memory;
 
-//TEST
-//MODTESTS
+#[cfg(test)]
+mod tests;
