@@ -1,6 +1,5 @@
 -- What fences keep where one more is opened.
-use Rattle.std.proofs.Common.{◌≡◌, ℕ, false, List, [], ◌∷◌, ◌++◌, None}
-use Rattle.std.specs.List.{AllPairs}
+use Rattle.std.proofs.Common.{◌≡◌, false, List, [], ◌∷◌, ◌++◌, None}
 use Rattle.std.proofs.lemmas.List.Quantifiers.{all_pairs_push}
 use Rattle.xdb_plain.specs.State.{same_name}
 use Rattle.xdb_jobs.specs.Fencing.{found_fence, LoadsDiffer}

@@ -1,6 +1,6 @@
 -- What running jobs keep where one is started, one ends, and some are cancelled.
-use Rattle.std.proofs.Common.{◌≡◌, ℕ, ◌+◌, ◌<◌, ◌==◌, eqb, Bool, true, false, List, [], ◌∷◌, ◌++◌, length, get_or, set, take, drop, map, Option, Some, None, refl, sym, ap, ◌∙◌, subst, inl, inr, arith}
-use Rattle.std.specs.List.{AllPairs, list_any, remove, position}
+use Rattle.std.proofs.Common.{◌≡◌, ℕ, ◌+◌, ◌<◌, ◌==◌, false, List, [], ◌∷◌, ◌++◌, length, get_or, set, take, drop, map, Option, Some, None, sym, ap, ◌∙◌, subst, inl, inr, arith}
+use Rattle.std.specs.List.{list_any, remove, position}
 use Rattle.std.proofs.lemmas.Bool.{cases_Bool, eq-eqb, eqb-true, false≢true}
 use Rattle.std.proofs.lemmas.List.{map-append, length-map, take_all, take-append-le}
 use Rattle.std.proofs.lemmas.List.Edits.{map_over_more}
@@ -91,6 +91,6 @@ module _ {H : Type 0} where
       subst (λ js. AreRunning js ranges) (sym front) (running_cancelled load span jobs ranges running)
 
   -- one more job of the list is done
-  pub cancelled_more : (load : List ℕ) (span : Bounds) (jobs now : List (Job H)) (at : ℕ) (job job' : Job H) → at < length jobs → now ≡ map (with_canceller load span) (take at jobs) ++ drop at jobs → job ≡ get_or now at job → job' ≡ with_canceller load span job → set now at job' ≡ map (with_canceller load span) (take (at + 1) jobs) ++ drop (at + 1) jobs
+  pub cancelled_more : (load : List ℕ) (span : Bounds) (jobs now : List (Job H)) (at : ℕ) (job job' : Job H) → at < length jobs → now ≡ map (with_canceller load span) (take at jobs) ++ drop at jobs → job ≡ get_or now at job → job' ≡ with_canceller load span (get_or now at job) → set now at job' ≡ map (with_canceller load span) (take (at + 1) jobs) ++ drop (at + 1) jobs
   cancelled_more load span jobs now at job job' l so_far read done =
-      ap (λ j. set now at j) done ∙ map_over_more (with_canceller load span) jobs now at job l so_far read
+      ap (λ j. set now at j) (done ∙ ap (with_canceller load span) (sym read)) ∙ map_over_more (with_canceller load span) jobs now at job l so_far read

@@ -1,6 +1,6 @@
 -- Jobs and fences beside those of the plain state.
-use Rattle.std.proofs.Common.{◌≡◌, ℕ, ◌==◌, ◌&&◌, Bool, true, false, not, cond, List, [], ◌∷◌, ◌++◌, map, filter, Option, Some, None, is_none, refl, sym, ap, ◌∙◌, inl, inr, if◌then◌else◌}
-use Rattle.std.specs.List.{filter_map, cons_option, find}
+use Rattle.std.proofs.Common.{◌≡◌, ℕ, ◌==◌, ◌&&◌, not, cond, List, [], ◌∷◌, ◌++◌, map, filter, Option, Some, is_none, refl, sym, ap, ◌∙◌, inl, inr, if◌then◌else◌}
+use Rattle.std.specs.List.{filter_map, cons_option}
 use Rattle.std.specs.Option.{option_map}
 use Rattle.std.proofs.lemmas.Bool.{cases_Bool, cond-true, cond-false, not_from_true, not_from_false}
 use Rattle.std.proofs.lemmas.List.{map-append}
@@ -15,7 +15,6 @@ use Rattle.xdb_plain.specs.State as plain
 use Rattle.xdb_jobs.specs.Fencing.{fence, without_fence}
 use Rattle.xdb_jobs.specs.InState.{Part, part, compaction_part, plain_part, compactions, fences_of}
 use Rattle.xdb_jobs.specs.Running.{hulls_of, with_canceller}
-use Rattle.xdb_jobs.specs.declared.fences.Fence.{Fence}
 use Rattle.xdb_jobs.specs.declared.jobs.Job.{Job}
 use Rattle.xdb_jobs.proofs.ListLaws.{map_twice, map_filter, filter_swap, map_filter_map, filter_filter_map}
 

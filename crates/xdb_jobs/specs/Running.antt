@@ -1,5 +1,5 @@
 -- Running compactions, in the order of their starts.
-use Rattle.std.specs.Prelude.{◌≡◌, ℕ, Bool, false, ◌&&◌, List, map, Option, Some, is_none, if◌then◌else◌}
+use Rattle.std.specs.Prelude.{◌≡◌, ℕ, false, ◌&&◌, List, map, Some, is_none, if◌then◌else◌}
 use Rattle.std.specs.List.{AllPairs}
 use Rattle.xdb_key.specs.Bounds.{Bounds, meets}
 use Rattle.xdb_jobs.specs.declared.jobs.Job.{Job}
