@@ -36,13 +36,7 @@ fn meets_any(hull: &KeyRange, others: &[KeyRange]) -> bool
 }
 
 /// Starts a job over these keys, where it may start.
-fn start(
-    alloc: Global,
-    jobs: &mut Jobs<u64>,
-    num: u64,
-    lo: &str,
-    hi: &str,
-) -> Result<bool, Fail> {
+fn start(alloc: Global, jobs: &mut Jobs<u64>, num: u64, lo: &str, hi: &str) -> Result<bool, Fail> {
     let hull = range(alloc, lo, hi)?;
     if !is_new(jobs, num) || meets_any(&hull, jobs.hulls()) {
         return Ok(false);
@@ -59,9 +53,11 @@ fn start(
 
 /// Starts three jobs, side by side.
 fn start_three(alloc: Global, jobs: &mut Jobs<u64>) -> Result<bool, Fail> {
-    Ok(start(alloc, jobs, 1, "a", "b")?
-        && start(alloc, jobs, 2, "b", "d")?
-        && start(alloc, jobs, 3, "d", "e")?)
+    Ok(
+        start(alloc, jobs, 1, "a", "b")?
+            && start(alloc, jobs, 2, "b", "d")?
+            && start(alloc, jobs, 3, "d", "e")?,
+    )
 }
 
 fn cancel(
@@ -209,19 +205,23 @@ fn touched(
 }
 
 fn open_three(alloc: Global, fences: &mut Fences) -> Result<bool, Fail> {
-    Ok(open(alloc, fences, b"l1", &[("a", "c")])?
-        && open(alloc, fences, b"l2", &[("b", "d"), ("x", "z")])?
-        && open(alloc, fences, b"l3", &[("m", "n")])?)
+    Ok(
+        open(alloc, fences, b"l1", &[("a", "c")])?
+            && open(alloc, fences, b"l2", &[("b", "d"), ("x", "z")])?
+            && open(alloc, fences, b"l3", &[("m", "n")])?,
+    )
 }
 
 /// Of the fences that a range meets, or that operations touch, the first counts, in the order of opening.
 fn first_counts(alloc: Global, fences: &Fences) -> Result<bool, Fail> {
-    Ok(is_name(&met(alloc, fences, "b", "c")?, b"l1")
-        && is_name(&met(alloc, fences, "c", "y")?, b"l2")
-        && met(alloc, fences, "d", "m")?.is_none()
-        && is_name(&touched(alloc, fences, &["m", "b"], &[])?, b"l1")
-        && is_name(&touched(alloc, fences, &["e"], &[("k", "n")])?, b"l3")
-        && touched(alloc, fences, &["z"], &[("d", "m")])?.is_none())
+    Ok(
+        is_name(&met(alloc, fences, "b", "c")?, b"l1")
+            && is_name(&met(alloc, fences, "c", "y")?, b"l2")
+            && met(alloc, fences, "d", "m")?.is_none()
+            && is_name(&touched(alloc, fences, &["m", "b"], &[])?, b"l1")
+            && is_name(&touched(alloc, fences, &["e"], &[("k", "n")])?, b"l3")
+            && touched(alloc, fences, &["z"], &[("d", "m")])?.is_none(),
+    )
 }
 
 /// The fence in the middle is closed, and opened again behind the others.
