@@ -1,0 +1,5 @@
+pub mod TakenOut
+pub mod JobLaws
+pub mod FenceLaws
+pub mod ListLaws
+pub mod StateLaws
