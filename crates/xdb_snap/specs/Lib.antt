@@ -1,0 +1,4 @@
+pub mod Listed
+pub mod Changes
+pub mod Pinned
+pub mod Bare
