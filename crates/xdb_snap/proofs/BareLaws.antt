@@ -3,14 +3,20 @@ use Rattle.std.proofs.Common.{◌≡◌, ℕ, Bool, true, false, not, cond, List
 use Rattle.std.specs.FinMap as fin
 use Rattle.std.specs.List.{find}
 use Rattle.std.specs.Option.{option_map}
+use Rattle.std.specs.Prelude.{nat_le, is_some}
 use Rattle.std.proofs.lemmas.List.{length-map, map-append}
 use Rattle.xdb_key.specs.Bounds.{Bounds}
 use Rattle.xdb_key.specs.declared.state.SnapState.TheVariants.{FileOnly}
 use Rattle.xdb_plain.specs.Snapshots as plain
-use Rattle.xdb_plain.specs.State.{Snapshot, same_name, found_snap, without_snap}
+use Rattle.xdb_plain.specs.State.{Plain, Snapshot, groups, same_name, found_snap, without_snap}
 use Rattle.xdb_snap.specs.declared.snap.Snap.{Snap}
-use Rattle.xdb_snap.specs.Bare.{with_copy, bare, ArePlain}
-use Rattle.xdb_snap.specs.Changes.{without_ticket, turned, excised}
+use Rattle.xdb_snap.specs.Bare.{with_copy, bare, ArePlain, file_only_at}
+use Rattle.xdb_snap.specs.Changes.{refusal, without_ticket, turned, excised}
+use Rattle.xdb_plain.specs.Replies.{snap_replies, state_reply}
+use Rattle.xdb_plain.specs.declared.reply.Reply.{Reply}
+use Rattle.xdb_plain.specs.declared.reply.Reply.TheVariants as reply
+use Rattle.xdb_snap.specs.declared.error.SnapNo.TheVariants.{NameInUse, BadRanges, TooMany}
+use Rattle.xdb_snap.specs.Replies.{replies_by}
 use Rattle.xdb_snap.specs.Listed.{has_name, named, without, changed}
 
 -- ---- what a map makes of a search, of a selection and of a change
@@ -64,9 +70,9 @@ module _ {H T : Type 0} (snaps : List (Snap H T)) (plains : List Snapshot) (alik
   plain-mapped f g same bared =
       map-through (with_copy fin.empty) f g same snaps ∙ ap (map g) alike ∙ sym (map-through bare g g bared plains)
 
-  pub plain-turned : (name : List ℕ) (hold : H) → ArePlain (changed name (turned hold) snaps) (map (λ p. cond (same_name p.name name) (record p { state = FileOnly }) p) plains)
+  pub plain-turned : (name : List ℕ) (hold : H) → ArePlain (changed name (turned hold) snaps) (map (file_only_at name) plains)
   plain-turned name hold =
-      plain-mapped (λ s. cond (has_name name s) (turned hold s) s) (λ p. cond (same_name p.name name) (record p { state = FileOnly }) p) (λ s. one (has_name name s) s) (λ p. two (same_name p.name name) p)
+      plain-mapped (λ s. cond (has_name name s) (turned hold s) s) (file_only_at name) (λ s. one (has_name name s) s) (λ p. two (same_name p.name name) p)
     where
       one : (t : Bool) (s : Snap H T) → with_copy fin.empty (cond t (turned hold s) s) ≡ cond t (record (with_copy fin.empty s) { state = FileOnly }) (with_copy fin.empty s)
       one true s = refl
@@ -87,3 +93,30 @@ module _ {H T : Type 0} (snaps : List (Snap H T)) (plains : List Snapshot) (alik
 
   pub plain-count : length snaps ≡ length plains
   plain-count = sym (length-map snaps (with_copy fin.empty)) ∙ ap length alike ∙ length-map plains bare
+
+-- ---- refusals
+
+some-mapped : {X Y : Type 0} (u : X → Y) (o : Option X) → is_some (option_map u o) ≡ is_some o
+some-mapped u None = refl
+some-mapped u (Some x) = refl
+
+module _ {H T : Type 0} (snaps : List (Snap H T)) (p : Plain) (alike : ArePlain snaps p.snaps) where
+  free-alike : (name : List ℕ) → is_some (found_snap name p.snaps) ≡ is_some (named name snaps)
+  free-alike name =
+      sym (some-mapped bare (found_snap name p.snaps))
+      ∙ sym (ap is_some (plain-found snaps p.snaps alike name))
+      ∙ some-mapped (with_copy fin.empty) (named name snaps)
+
+  by-tests : (used rise full : Bool) (granted : List Reply) → cond used (reply.NameInUse ∷ []) (cond (not rise) (reply.BadRanges ∷ []) (cond full (reply.TooMany ∷ []) granted))
+      ≡ replies_by (cond used (Some NameInUse) (cond (not rise) (Some BadRanges) (cond full (Some TooMany) None))) granted
+  by-tests true rise full granted = refl
+  by-tests false false full granted = refl
+  by-tests false true true granted = refl
+  by-tests false true false granted = refl
+
+  pub refused-alike : (name : List ℕ) (ranges : List Bounds) → snap_replies p name ranges ≡ replies_by (refusal name ranges snaps) (reply.Memory ∷ state_reply (plain.first_state ranges p.next (groups p)) ∷ [])
+  refused-alike name ranges =
+      let granted = reply.Memory ∷ state_reply (plain.first_state ranges p.next (groups p)) ∷ [] in
+      ap₂ (λ used count. cond used (reply.NameInUse ∷ []) (cond (not (plain.are_rising ranges)) (reply.BadRanges ∷ []) (cond (nat_le 64 count) (reply.TooMany ∷ []) granted)))
+      (free-alike name) (sym (plain-count snaps p.snaps alike))
+      ∙ by-tests (is_some (named name snaps)) (plain.are_rising ranges) (nat_le 64 (length snaps)) granted

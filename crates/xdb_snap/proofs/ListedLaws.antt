@@ -1,7 +1,8 @@
 -- The open snapshots: the one of a name stands at one place, and what holds of all stays.
 use Rattle.std.proofs.Common.{◌≡◌, ℕ, zero, suc, ◌+◌, ◌-◌, ◌<◌, ◌≤◌, Bool, true, false, not, ◌&&◌, cond, List, [], ◌∷◌, ◌++◌, length, map, filter, get_or, set, take, drop, Option, Some, None, inl, inr, refl, sym, ap, ap₂, ◌∙◌, subst, arith}
 use Rattle.std.specs.Bool.{IsTrue}
-use Rattle.std.specs.Prelude.{Bor, is_some}
+use Rattle.std.specs.Borrow.{Bor}
+use Rattle.std.specs.Prelude.{is_some}
 use Rattle.std.specs.Option.{option_copied}
 use Rattle.std.specs.Cmp.{tied_itself, Equal-is}
 use Rattle.std.specs.List.{find, remove, position, AllPairs, list_all}
@@ -29,6 +30,10 @@ same_name-tells a b h = key_exact a b ((Equal-is (key_cmp a b)).0 h)
 
 same_name-itself : (a : List ℕ) → same_name a a ≡ true
 same_name-itself a = ap is_eq (tied_itself key_total a)
+
+pub not-copied : {X : Type 0} (o : Option (Bor X)) (p : Option X) → option_copied o ≡ p → is_some o ≡ false → p ≡ None
+not-copied None p e off = sym e
+not-copied (Some b) p e off = absurd (false≢true (sym off))
 
 module _ {H T : Type 0} where
   apart : (name : List ℕ) (a b : Snap H T) → has_name name a ≡ true → not (same_name a.name b.name) ≡ true → has_name name b ≡ false
@@ -75,10 +80,6 @@ module _ {H T : Type 0} where
 
   -- ---- what is asked of the one of a name
 
-  pub not-copied : {X : Type 0} (o : Option (Bor X)) (p : Option X) → option_copied o ≡ p → is_some o ≡ false → p ≡ None
-  not-copied None p e off = sym e
-  not-copied (Some b) p e off = absurd (false≢true (sym off))
-
   pub gives-none : (o : Option (Snap H T)) → o ≡ None → may_give o ≡ true → ⊥
   gives-none o none may = false≢true (sym (ap may_give none) ∙ may)
 
@@ -121,10 +122,10 @@ module _ {H T : Type 0} where
   pub listed-changed : (f : Snap H T → Snap H T) (snaps : List (Snap H T)) → ((s : Snap H T) → (f s).name ≡ s.name) → ((s : Snap H T) → (f s).ranges ≡ s.ranges) → AreListed snaps → AreListed (map f snaps)
   listed-changed f snaps name ranges listed = record {
     names = λ i j d less l.
-      let long = length-map snaps f in
-      let a = ap (λ s. s.name) (get_or-map f snaps i d d (omega arith)) ∙ name (get_or snaps i d) in
-      let b = ap (λ s. s.name) (get_or-map f snaps j d d (omega arith)) ∙ name (get_or snaps j d) in
-      ap not (ap₂ same_name a b) ∙ listed.names i j d less (omega arith);
+        let long = length-map snaps f in
+        let a = ap (λ s. s.name) (get_or-map f snaps i d d (omega arith)) ∙ name (get_or snaps i d) in
+        let b = ap (λ s. s.name) (get_or-map f snaps j d d (omega arith)) ∙ name (get_or snaps j d) in
+        ap not (ap₂ same_name a b) ∙ listed.names i j d less (omega arith);
     ranges = all-rising snaps listed.ranges;
     few = let long = length-map snaps f in omega arith;
   }

@@ -2,3 +2,4 @@ pub mod Listed
 pub mod Changes
 pub mod Pinned
 pub mod Bare
+pub mod Replies

@@ -5,8 +5,7 @@ ghost use Rattle.xdb_snap.specs.Listed.{AreListed, named, without, changed};
 ghost use Rattle.xdb_snap.specs.Changes.{made, refusal, cause, ticket_of, may_give, may_turn, without_ticket, turned, excised};
 ghost use Rattle.xdb_snap.specs.Pinned.{pinned_marks};
 
-use crate::listed;
-use crate::{MOST_SNAPS, Snap, SnapNo};
+use crate::{MOST_SNAPS, Snap, SnapNo, listed};
 use std::alloc::{AllocError, Global};
 use std::marker::Model;
 use xdb_key::{KeyRange, Name, SnapState};
@@ -95,7 +94,8 @@ impl<H: Drop, T: Drop> Snaps<H, T> {
         if self.snaps.len() >= MOST_SNAPS {
             return Err(SnapNo::TooMany);
         }
-        self.snaps.push(Snap::new(name, ranges, mark, state, ticket))?;
+        self.snaps
+            .push(Snap::new(name, ranges, mark, state, ticket))?;
         Ok(())
     }
 
@@ -129,5 +129,11 @@ impl<H: Drop, T: Drop> Snaps<H, T> {
         ensures { self.new ≡ map (excised load span.now) self.old }
     {
         listed::excise(&mut self.snaps, span, load);
+    }
+
+    /// How many snapshots there is room for.
+    #[cfg(test)]
+    pub fn capacity(&self) -> usize {
+        self.snaps.capacity()
     }
 }
