@@ -1,0 +1,4 @@
+pub mod AloneLaws
+pub mod ListedLaws
+pub mod MarkLaws
+pub mod BareLaws

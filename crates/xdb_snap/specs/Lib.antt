@@ -1,0 +1,5 @@
+pub mod Listed
+pub mod Changes
+pub mod Pinned
+pub mod Bare
+pub mod Replies
