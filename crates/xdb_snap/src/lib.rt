@@ -14,4 +14,3 @@ pub use std::alloc::AllocError as Memory;
 
 /// The most snapshots that are open.
 pub const MOST_SNAPS: usize = 64;
-
