@@ -1,5 +1,5 @@
 -- A letter and a decimal are a name.
-use Rattle.std.proofs.Common.{◌≡◌, ℕ, suc, ◌+◌, ◌%◌, ◌^◌, ◌<◌, ◌≤◌, true, leb, List, [], ◌∷◌, length, refl, ◌∙◌, arith}
+use Rattle.std.proofs.Common.{◌≡◌, ℕ, suc, ◌+◌, ◌%◌, ◌^◌, ◌<◌, true, leb, [], ◌∷◌, length, refl, ◌∙◌, arith}
 use Rattle.std.specs.Fmt.{decimal}
 use Rattle.std.specs.List.{list_all}
 use Rattle.std.proofs.lemmas.Bool.{and_from, le-leb}
@@ -15,7 +15,7 @@ decimal-name_bytes : (n : ℕ) → n < 2 ^ 64 → list_all is_name_byte (decimal
 decimal-name_bytes n h = decimal_by_steps (λ m ds. list_all is_name_byte ds ≡ true)
     (λ m low. and_from (is_name_byte (48 + m)) true (digit-name_byte m low) refl)
     (λ m ds high before. list_all-append is_name_byte ds ((48 + m % 10) ∷ [])
-        ∙ and_from (list_all is_name_byte ds) _ before (and_from (is_name_byte (48 + m % 10)) true (digit-name_byte (m % 10) (omega arith)) refl))
+    ∙ and_from (list_all is_name_byte ds) _ before (and_from (is_name_byte (48 + m % 10)) true (digit-name_byte (m % 10) (omega arith)) refl))
     n h
 
 short-decimal : (n : ℕ) → n < 2 ^ 32 → leb (suc (length (decimal n))) 16 ≡ true

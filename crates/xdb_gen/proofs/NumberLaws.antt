@@ -1,5 +1,5 @@
 -- Numbered lines, and lines that join them.
-use Rattle.std.proofs.Common.{◌≡◌, ℕ, ◌+◌, List, [], ◌∷◌, ◌++◌, length, map, refl, sym, ap, ◌∙◌, arith}
+use Rattle.std.proofs.Common.{◌≡◌, ℕ, ◌+◌, List, [], ◌∷◌, ◌++◌, length, map, sym, ap, ◌∙◌, arith}
 use Rattle.std.proofs.lemmas.List.{map-append, length-map}
 use Rattle.xdb_gen.specs.Said.{Said, line, numbered_from, said_in, AreNumbered}
 use Rattle.xdb_plain.specs.declared.script.Line.{Line}
@@ -14,6 +14,6 @@ are_numbered-push lines l h number =
     ∙ ap (λ n. numbered_from 1 (map said_in lines) ++ line n (said_in l) ∷ []) place
     ∙ sym (numbered-push 1 (map said_in lines) (said_in l))
     ∙ ap (numbered_from 1) (sym (map-append said_in lines (l ∷ [])))
-    where
-      place : l.number ≡ 1 + length (map said_in lines)
-      place = omega (arith, length-map lines said_in)
+  where
+    place : l.number ≡ 1 + length (map said_in lines)
+    place = omega (arith, length-map lines said_in)

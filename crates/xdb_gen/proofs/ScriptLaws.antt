@@ -1,6 +1,5 @@
 -- What is generated is a script: each line suits, and none defines a table.
 use Rattle.std.proofs.Common.{◌≡◌, ℕ, zero, suc, ◌+◌, ◌-◌, ◌^◌, ◌<◌, ◌≤◌, Bool, true, false, cond, eqb, leb, ltb, List, [], ◌∷◌, ◌++◌, length, map, refl, sym, ap, subst, ◌∙◌, add-one, arith}
-use Rattle.std.specs.Fmt.{decimal}
 use Rattle.std.specs.List.{AllByRecursion, list_all}
 use Rattle.std.specs.Prelude.{sum}
 use Rattle.std.proofs.lemmas.Bool.{and_from, le-leb, lt-ltb, cond-true}
@@ -13,11 +12,11 @@ use Rattle.xdb_key.specs.declared.op.Op.TheVariants as op
 use Rattle.xdb_plain.specs.Scripts.{is_value_of, are_batch, suits, tables_below, are_lines, is_script}
 use Rattle.xdb_plain.specs.declared.script.Cmd.{Cmd}
 use Rattle.xdb_plain.specs.declared.script.Cmd.TheVariants as cmd
-use Rattle.xdb_gen.specs.Commands.{key_of, key_range, put_value, snap_name, put, del, del_span, get, scan, command_by, load_open}
+use Rattle.xdb_gen.specs.Commands.{key_of, key_range, put_value, snap_name, put, del, del_span, get, scan, command_by}
 use Rattle.xdb_gen.specs.Draws.{drawn, next_state}
 use Rattle.xdb_gen.specs.Generated.{progress, generated}
 use Rattle.xdb_gen.specs.Rules.{Progress, by_rule, rule_of, upkeep, loads, snapshots}
-use Rattle.xdb_gen.specs.Said.{Said, client, owner, numbered_from}
+use Rattle.xdb_gen.specs.Said.{Said, client, numbered_from}
 use Rattle.xdb_gen.specs.declared.rule.Rule.{Rule}
 use Rattle.xdb_gen.specs.declared.rule.Rule.TheVariants.{Upkeep, Load, Snapshot, Command}
 
@@ -30,7 +29,7 @@ fits-lines : (last : ℕ) (ss : List Said) → AllByRecursion Fits ss → are_li
 fits-lines last [] h = refl
 fits-lines last (s ∷ ss) h =
     and_from _ _ (and_from (ltb last (last + 1)) (suits [] s.by s.cmd) (lt-ltb last (last + 1) (omega arith)) h.0.suits)
-      (ap (λ tables. are_lines (last + 1) tables (numbered_from (last + 1 + 1) ss)) h.0.tables ∙ fits-lines (last + 1) ss h.1)
+    (ap (λ tables. are_lines (last + 1) tables (numbered_from (last + 1 + 1) ss)) h.0.tables ∙ fits-lines (last + 1) ss h.1)
 
 all-append : {A : Type 0} (P : A → Type 0) (xs ys : List A) → AllByRecursion P xs → AllByRecursion P ys → AllByRecursion P (xs ++ ys)
 all-append P [] ys h g = g

@@ -3,3 +3,4 @@ pub mod Commands
 pub mod Said
 pub mod Rules
 pub mod Generated
+pub mod Rows

@@ -1,5 +1,5 @@
 -- What an operation says, by its number.
-use Rattle.std.specs.Prelude.{ℕ, ◌+◌, ◌-◌, ◌%◌, List, [], ◌∷◌, ◌++◌, map, nat_lt, ◌==◌, if◌then◌else◌}
+use Rattle.std.specs.Prelude.{ℕ, ◌-◌, ◌%◌, List, [], ◌∷◌, ◌++◌, map, nat_lt, ◌==◌, if◌then◌else◌}
 use Rattle.xdb_gen.specs.Commands.{command_by, key_range, load_name, load_open, snap_name}
 use Rattle.xdb_gen.specs.Draws.{next_state, drawn}
 use Rattle.xdb_gen.specs.Said.{Said, client, owner, said_in}

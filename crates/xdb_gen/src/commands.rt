@@ -8,12 +8,12 @@ use xdb_key::{Op, Ops};
 use xdb_plain::{Cmd, CommitForm, Items, Question};
 
 /// The command of a kind below 10.
-pub fn command_by(alloc: Global, kind: u32, i: u32, drawn: u32) -> Result<Cmd, AllocError>
+pub fn command_by(alloc: Global, kind: u32, operation: u32, drawn: u32) -> Result<Cmd, AllocError>
     requires { drawn < 1000 }
-    ensures { IfOk result (λ cmd. cmd ≡ command_by kind i drawn) }
+    ensures { IfOk result (λ cmd. cmd ≡ command_by kind operation drawn) }
 {
     match kind {
-        0..=4 => put(alloc, i, drawn),
+        0..=4 => put(alloc, operation, drawn),
         5 => del(alloc, drawn),
         6 => del_span(alloc, drawn),
         7 | 8 => get(alloc, drawn),
@@ -21,11 +21,11 @@ pub fn command_by(alloc: Global, kind: u32, i: u32, drawn: u32) -> Result<Cmd, A
     }
 }
 
-fn put(alloc: Global, i: u32, drawn: u32) -> Result<Cmd, AllocError>
-    ensures { IfOk result (λ cmd. cmd ≡ put i drawn) }
+fn put(alloc: Global, operation: u32, drawn: u32) -> Result<Cmd, AllocError>
+    ensures { IfOk result (λ cmd. cmd ≡ put operation drawn) }
 {
     let key = key(alloc, drawn)?;
-    let value = value(alloc, i)?;
+    let value = value(alloc, operation)?;
     commit(alloc, CommitForm::Put, Op::Set { key, value })
 }
 
@@ -81,11 +81,11 @@ fn scan(alloc: Global, drawn: u32) -> Result<Cmd, AllocError>
 }
 
 /// Opens a load of no tables, which excises ten keys.
-pub fn load_open(alloc: Global, i: u32, drawn: u32) -> Result<Cmd, AllocError>
+pub fn load_open(alloc: Global, operation: u32, drawn: u32) -> Result<Cmd, AllocError>
     requires { drawn < 1000 }
-    ensures { IfOk result (λ cmd. cmd ≡ load_open i drawn) }
+    ensures { IfOk result (λ cmd. cmd ≡ load_open operation drawn) }
 {
-    let load = load_name(alloc, i)?;
+    let load = load_name(alloc, operation)?;
     let span = key_range(alloc, drawn, drawn + 10)?;
     Ok(Cmd::Load {
         load,
@@ -94,18 +94,18 @@ pub fn load_open(alloc: Global, i: u32, drawn: u32) -> Result<Cmd, AllocError>
     })
 }
 
-pub fn install(alloc: Global, i: u32) -> Result<Cmd, AllocError>
-    ensures { IfOk result (λ cmd. cmd ≡ Cmd.Install (load_name i)) }
+pub fn install(alloc: Global, operation: u32) -> Result<Cmd, AllocError>
+    ensures { IfOk result (λ cmd. cmd ≡ Cmd.Install (load_name operation)) }
 {
-    let load = load_name(alloc, i)?;
+    let load = load_name(alloc, operation)?;
     Ok(Cmd::Install { load })
 }
 
 /// Makes a snapshot of the keys from `k0000` to `k9999`.
-pub fn snap(alloc: Global, i: u32) -> Result<Cmd, AllocError>
-    ensures { IfOk result (λ cmd. cmd ≡ Cmd.Snap (snap_name i) (key_range 0 9999 ∷ [])) }
+pub fn snap(alloc: Global, operation: u32) -> Result<Cmd, AllocError>
+    ensures { IfOk result (λ cmd. cmd ≡ Cmd.Snap (snap_name operation) (key_range 0 9999 ∷ [])) }
 {
-    let name = snap_name(alloc, i)?;
+    let name = snap_name(alloc, operation)?;
     let mut ranges = Vec::with_capacity(alloc, 1)?;
     ranges.push(key_range(alloc, 0, 9999)?)?;
     Ok(Cmd::Snap {
@@ -114,9 +114,9 @@ pub fn snap(alloc: Global, i: u32) -> Result<Cmd, AllocError>
     })
 }
 
-pub fn drop_snap(alloc: Global, i: u32) -> Result<Cmd, AllocError>
-    ensures { IfOk result (λ cmd. cmd ≡ Cmd.Drop (snap_name i)) }
+pub fn drop_snap(alloc: Global, operation: u32) -> Result<Cmd, AllocError>
+    ensures { IfOk result (λ cmd. cmd ≡ Cmd.Drop (snap_name operation)) }
 {
-    let name = snap_name(alloc, i)?;
+    let name = snap_name(alloc, operation)?;
     Ok(Cmd::Drop { name })
 }

@@ -39,14 +39,14 @@ impl Draft {
     }
 
     /// Says what the operation of this number says.
-    pub fn say_operation(&mut self, i: u32) -> Result<(), AllocError>
-        ensures { OnOk result (self.new ≡ by_rule (rule_of i) i self.old) }
+    pub fn say_operation(&mut self, operation: u32) -> Result<(), AllocError>
+        ensures { OnOk result (self.new ≡ by_rule (rule_of operation) operation self.old) }
     {
-        match Rule::of(i) {
+        match Rule::of(operation) {
             Rule::Upkeep => self.say_upkeep(),
-            Rule::Load => self.say_load(i),
-            Rule::Snapshot => self.say_snapshot(i),
-            Rule::Command => self.say_command(i),
+            Rule::Load => self.say_load(operation),
+            Rule::Snapshot => self.say_snapshot(operation),
+            Rule::Command => self.say_command(operation),
         }
     }
 
@@ -58,33 +58,33 @@ impl Draft {
         self.say(By::Db, Cmd::Compact { which: Which::Auto })
     }
 
-    fn say_load(&mut self, i: u32) -> Result<(), AllocError>
-        ensures { OnOk result (self.new ≡ with_load i self.old) }
+    fn say_load(&mut self, operation: u32) -> Result<(), AllocError>
+        ensures { OnOk result (self.new ≡ with_load operation self.old) }
     {
         let drawn = self.draws.draw(1000);
         let alloc = self.allocator();
-        self.say(CLIENT, load_open(alloc, i, drawn)?)?;
+        self.say(CLIENT, load_open(alloc, operation, drawn)?)?;
         self.say(By::Db, Cmd::Seal)?;
         self.say(By::Db, Cmd::Flush)?;
-        self.say(CLIENT, install(alloc, i)?)
+        self.say(CLIENT, install(alloc, operation)?)
     }
 
-    fn say_snapshot(&mut self, i: u32) -> Result<(), AllocError>
-        ensures { OnOk result (self.new ≡ with_said self.old (snapshots i)) }
+    fn say_snapshot(&mut self, operation: u32) -> Result<(), AllocError>
+        ensures { OnOk result (self.new ≡ with_said self.old (snapshots operation)) }
     {
         let alloc = self.allocator();
-        if i >= 1800 {
-            self.say(CLIENT, drop_snap(alloc, i - 900)?)?;
+        if operation >= 1800 {
+            self.say(CLIENT, drop_snap(alloc, operation - 900)?)?;
         }
-        self.say(CLIENT, snap(alloc, i)?)
+        self.say(CLIENT, snap(alloc, operation)?)
     }
 
-    fn say_command(&mut self, i: u32) -> Result<(), AllocError>
-        ensures { OnOk result (self.new ≡ with_command i self.old) }
+    fn say_command(&mut self, operation: u32) -> Result<(), AllocError>
+        ensures { OnOk result (self.new ≡ with_command operation self.old) }
     {
         let kind = self.draws.draw(10);
         let drawn = self.draws.draw(1000);
-        let cmd = command_by(self.allocator(), kind, i, drawn)?;
+        let cmd = command_by(self.allocator(), kind, operation, drawn)?;
         self.say(CLIENT, cmd)
     }
 

@@ -4,6 +4,7 @@ ghost use Rattle.xdb_gen.specs.Draws.{next_state, drawn};
 use std::marker::Model;
 
 const MULTIPLIER: u64 = 1_664_525;
+
 const INCREMENT: u64 = 1_013_904_223;
 
 /// A linear congruential generator modulo 2^32, seen as its state.

@@ -3,11 +3,13 @@
 
 ghost use Rattle.std.specs.Prelude.{◌≡◌, IfOk, IsTrue};
 ghost use Rattle.xdb_gen.specs.Generated.{generated};
+ghost use Rattle.xdb_plain.specs.Scripts.{is_script};
 
 mod commands;
 mod draft;
 mod draws;
 pub mod laws;
+pub mod rows;
 mod rule;
 #[cfg(test)]
 mod tests;
@@ -33,7 +35,8 @@ use xdb_plain::Script;
 /// The script isn't bound by the size that a script in bytes may have. The only error is that an
 /// allocation failed.
 pub fn generate(alloc: Global, ops: u32, seed: u32) -> Result<Script, AllocError>
-    ensures { IfOk result (λ script. script ≡ generated ops seed) }
+    ensures lines { IfOk result (λ script. script ≡ generated ops seed) }
+    ensures script { IfOk result (λ script. IsTrue (is_script script)) }
 {
     let mut draft = Draft::new(alloc, seed);
     for said in 0..ops {

@@ -16,14 +16,14 @@ pub enum Rule {
 
 impl Rule {
     /// The first rule that fits the operation of this number.
-    pub fn of(i: u32) -> Self
-        ensures { result ≡ rule_of i }
+    pub fn of(operation: u32) -> Self
+        ensures { result ≡ rule_of operation }
     {
-        if i % 500 == 0 {
+        if operation % 500 == 0 {
             Rule::Upkeep
-        } else if i % 700 == 0 {
+        } else if operation % 700 == 0 {
             Rule::Load
-        } else if i % 900 == 0 {
+        } else if operation % 900 == 0 {
             Rule::Snapshot
         } else {
             Rule::Command

@@ -62,18 +62,18 @@ fn last_digit(number: u32) -> u8
 }
 
 /// The value that is put by the operation of this number.
-pub fn value(alloc: Global, i: u32) -> Result<Val, AllocError>
-    ensures { IfOk result (λ value. value ≡ put_value i) }
+pub fn value(alloc: Global, operation: u32) -> Result<Val, AllocError>
+    ensures { IfOk result (λ value. value ≡ put_value operation) }
 {
-    let bytes = lettered(alloc, b'v', i)?;
+    let bytes = lettered(alloc, b'v', operation)?;
     Ok(Val::new(bytes))
 }
 
 /// The name of the load that is opened by the operation of this number.
-pub fn load_name(alloc: Global, i: u32) -> Result<Name, AllocError>
-    ensures { IfOk result (λ name. name ≡ load_name i) }
+pub fn load_name(alloc: Global, operation: u32) -> Result<Name, AllocError>
+    ensures { IfOk result (λ name. name ≡ load_name operation) }
 {
-    let bytes = lettered(alloc, b'l', i)?;
+    let bytes = lettered(alloc, b'l', operation)?;
     let Some(name) = Name::new(&bytes) else {
         unreachable!()
     };
@@ -81,10 +81,10 @@ pub fn load_name(alloc: Global, i: u32) -> Result<Name, AllocError>
 }
 
 /// The name of the snapshot that is made by the operation of this number.
-pub fn snap_name(alloc: Global, i: u32) -> Result<Name, AllocError>
-    ensures { IfOk result (λ name. name ≡ snap_name i) }
+pub fn snap_name(alloc: Global, operation: u32) -> Result<Name, AllocError>
+    ensures { IfOk result (λ name. name ≡ snap_name operation) }
 {
-    let bytes = lettered(alloc, b's', i)?;
+    let bytes = lettered(alloc, b's', operation)?;
     let Some(name) = Name::new(&bytes) else {
         unreachable!()
     };
@@ -96,7 +96,9 @@ fn lettered(alloc: Global, letter: u8, number: u32) -> Result<Vec<u8>, AllocErro
     ensures { IfOk result (λ bytes. bytes.items ≡ letter ∷ decimal number) }
 {
     let mut digits = Buffer::new();
-    let mut bytes = Vec::from_slice(alloc, &[letter])?;
+    // A letter and at most ten digits.
+    let mut bytes = Vec::with_capacity(alloc, 11)?;
+    bytes.push(letter)?;
     bytes.extend_from_slice(digits.format(number).as_bytes())?;
     Ok(bytes)
 }
