@@ -1,9 +1,10 @@
 -- What is generated is a script: each line suits, and none defines a table.
-use Rattle.std.proofs.Common.{◌≡◌, ℕ, zero, suc, ◌+◌, ◌-◌, ◌^◌, ◌<◌, ◌≤◌, Bool, true, false, cond, eqb, leb, ltb, List, [], ◌∷◌, ◌++◌, length, map, refl, sym, ap, subst, ◌∙◌, add-one, arith}
+use Rattle.std.proofs.Common.{◌≡◌, ℕ, zero, suc, ◌+◌, ◌-◌, ◌^◌, ◌<◌, ◌≤◌, Bool, true, false, cond, eqb, leb, ltb, List, [], ◌∷◌, ◌++◌, length, map, refl, sym, ap, subst, ◌∙◌, add-one, add-zero, add-suc, append_assoc, arith}
 use Rattle.std.specs.List.{AllByRecursion, list_all}
 use Rattle.std.specs.Prelude.{sum}
 use Rattle.std.proofs.lemmas.Bool.{and_from, le-leb, lt-ltb, cond-true}
 use Rattle.std.proofs.lemmas.Fmt.{length-decimal-le}
+use Rattle.std.proofs.lemmas.List.{append-nil}
 use Rattle.std.proofs.lemmas.List.Sums.{sum_by-cons}
 use Rattle.xdb_key.specs.Ops.{op_len, batch_len}
 use Rattle.xdb_key.specs.Varint.{varint_len}
@@ -12,6 +13,8 @@ use Rattle.xdb_key.specs.declared.op.Op.TheVariants as op
 use Rattle.xdb_plain.specs.Scripts.{is_value_of, are_batch, suits, tables_below, are_lines, is_script}
 use Rattle.xdb_plain.specs.declared.script.Cmd.{Cmd}
 use Rattle.xdb_plain.specs.declared.script.Cmd.TheVariants as cmd
+use Rattle.xdb_plain.specs.declared.script.Line.{Line}
+use Rattle.xdb_gen.proofs.NumberLaws.{numbered-append}
 use Rattle.xdb_gen.specs.Commands.{key_of, key_range, put_value, snap_name, put, del, del_span, get, scan, command_by}
 use Rattle.xdb_gen.specs.Draws.{drawn, next_state}
 use Rattle.xdb_gen.specs.Generated.{progress, generated}
@@ -117,3 +120,28 @@ progress-next n seed = subst (λ m. progress m seed ≡ by_rule (rule_of m) m (p
 pub progress-ended : (p : Progress) (n ops seed : ℕ) → p ≡ progress n seed → n ≡ ops → ops < 2 ^ 32 → is_script (numbered_from 1 p.said) ≡ true
 progress-ended p n ops seed h same small =
     ap (λ (q : Progress). is_script (numbered_from 1 q.said)) (h ∙ ap (λ m. progress m seed) same) ∙ generated-is_script ops seed small
+
+-- ---- more operations
+
+added : (r : Rule) (i : ℕ) (p : Progress) → (more : List Said) × ((by_rule r i p).said ≡ p.said ++ more)
+added Upkeep i p = (upkeep, refl)
+added Load i p = (loads i (drawn 1000 (next_state p.state)), refl)
+added Snapshot i p = (snapshots i, refl)
+added Command i p = (client (command_by (drawn 10 (next_state p.state)) i (drawn 1000 (next_state (next_state p.state)))) ∷ [], refl)
+
+progress-more : (more ops seed : ℕ) → (ss : List Said) × ((progress (ops + more) seed).said ≡ (progress ops seed).said ++ ss)
+progress-more zero ops seed = ([], ap (λ n. (progress n seed).said) (add-zero ops) ∙ sym (append-nil (progress ops seed).said))
+progress-more (suc more) ops seed =
+    let before = progress-more more ops seed in
+    let last = added (rule_of (suc (ops + more))) (suc (ops + more)) (progress (ops + more) seed) in (
+      before.0 ++ last.0,
+      ap (λ n. (progress n seed).said) (add-suc ops more) ∙ last.1 ∙ ap (λ ss. ss ++ last.0) before.1
+          ∙ append_assoc (progress ops seed).said before.0 last.0,
+    )
+
+pub generated-more : (ops more seed : ℕ) → (lines : List Line) × (generated (ops + more) seed ≡ generated ops seed ++ lines)
+generated-more ops more seed =
+    let said = progress-more more ops seed in (
+      numbered_from (1 + length (progress ops seed).said) said.0,
+      ap (numbered_from 1) said.1 ∙ numbered-append 1 (progress ops seed).said said.0,
+    )
