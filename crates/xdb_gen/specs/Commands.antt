@@ -8,7 +8,7 @@ use Rattle.xdb_plain.specs.declared.question.Question.TheVariants.{Get, Scan}
 use Rattle.xdb_plain.specs.declared.script.Cmd.{Cmd}
 use Rattle.xdb_plain.specs.declared.script.Cmd.TheVariants as cmd
 
--- the last four digits of a number, with zeros in front
+-- the last four digits of a number, with zeros in front; 48 is the digit 0
 abbrev pub four_digits : ℕ → List ℕ
 four_digits a = (48 + a / 1000 % 10) ∷ (48 + a / 100 % 10) ∷ (48 + a / 10 % 10) ∷ (48 + a % 10) ∷ []
 
@@ -19,7 +19,7 @@ key_of a = codes "k" ++ four_digits a
 abbrev pub key_range : ℕ → ℕ → Bounds
 key_range a b = bounds (key_of a) (key_of b)
 
--- a name or a value that ends in the number of an operation
+-- values and names end in the number of an operation
 abbrev pub put_value : ℕ → List ℕ
 put_value i = codes "v" ++ decimal i
 

@@ -21,10 +21,13 @@ upkeep = owner cmd.Seal ∷ owner cmd.Flush ∷ owner (cmd.Compact Auto) ∷ []
 abbrev pub loads : ℕ → ℕ → List Said
 loads i a = client (load_open i a) ∷ owner cmd.Seal ∷ owner cmd.Flush ∷ client (cmd.Install (load_name i)) ∷ []
 
--- a snapshot of nearly all keys is made, and the one from 900 operations before is dropped
+-- the snapshot from 900 operations before is dropped; the first one is made at 900
+abbrev pub old_snapshot : ℕ → List Said
+old_snapshot i = if nat_lt i 1800 then [] else client (cmd.Drop (snap_name (i - 900))) ∷ []
+
+-- and then one of all keys but k9999 is made
 abbrev pub snapshots : ℕ → List Said
-snapshots i =
-    (if nat_lt i 1800 then [] else client (cmd.Drop (snap_name (i - 900))) ∷ []) ++ client (cmd.Snap (snap_name i) (key_range 0 9999 ∷ [])) ∷ []
+snapshots i = old_snapshot i ++ client (cmd.Snap (snap_name i) (key_range 0 9999 ∷ [])) ∷ []
 
 -- what has been said, and the state that the draws have come to
 pub record Progress : Type 0 where

@@ -1,7 +1,7 @@
-ghost use Rattle.std.specs.Prelude.{◌≡◌, ◌<◌, ◌^◌, List, [], ◌∷◌, IsTrue, OnOk};
+ghost use Rattle.std.specs.Prelude.{◌≡◌, [], ◌∷◌, IsTrue, OnOk};
 ghost use Rattle.xdb_plain.specs.Scripts.{is_script};
-ghost use Rattle.xdb_gen.specs.Rules.{Progress, seen, with_said, with_draw, with_load, with_command, by_rule, rule_of, upkeep, loads, snapshots};
-ghost use Rattle.xdb_gen.specs.Said.{said, numbered_from, AreNumbered};
+ghost use Rattle.xdb_gen.specs.Rules.{seen, with_said, with_load, with_command, by_rule, rule_of, upkeep, loads, snapshots};
+ghost use Rattle.xdb_gen.specs.Said.{said, numbered_from};
 
 use crate::commands::{command_by, drop_snap, install, load_open, snap};
 use crate::draws::Draws;
@@ -9,6 +9,9 @@ use crate::rule::Rule;
 use std::alloc::{AllocError, Global};
 use std::marker::Model;
 use xdb_plain::{By, Cmd, Line, Script, Which};
+
+/// Who speaks, where it isn't the engine's owner.
+const CLIENT: By = By::Client(1);
 
 /// A script that grows by one operation after another. Its lines are numbered from 1.
 #[derive(Debug, Drop)]
@@ -113,6 +116,3 @@ impl Draft {
         Script::new(self.lines)
     }
 }
-
-/// Who speaks, where it isn't the engine's owner.
-const CLIENT: By = By::Client(1);

@@ -11,5 +11,6 @@ pub fn generated_is_a_script()
 
 /// A script of fewer operations is the front of one of more, from the same seed.
 pub fn more_operations_add_lines()
-    ensures { (ops more seed : ℕ) → (lines : List Line) × (generated (ops + more) seed ≡ generated ops seed ++ lines) }
+    ensures { (ops more seed : ℕ) → (lines : List Line)
+        × (generated (ops + more) seed ≡ generated ops seed ++ lines) }
 {}
