@@ -1,0 +1,3 @@
+pub mod RangeLaws
+pub mod SweepLaws
+pub mod GrowthLaws

@@ -1,0 +1,6 @@
+-- The first tables are named.
+use Rattle.std.proofs.Common.{◌≡◌, ◌++◌, map, take}
+use Rattle.xdb_pick.proofs.planning.put_names.Given as goal
+
+abbrev pub invariant-loop-table : goal.invariant-loop-table
+invariant-loop-table l = l.out.items ≡ l.initial.out.items ++ map (λ t. (l.level, t.now.num)) (take l.table-index l.tables)
