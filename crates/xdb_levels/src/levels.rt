@@ -57,6 +57,15 @@ impl<const N: usize> Levels<N> {
         self.levels[0].allocator()
     }
 
+    /// How many levels there are.
+    pub fn count(&self) -> usize
+        ensures count { result ≡ N }
+        ensures levels { IsLevels N self.now }
+    {
+        let levels = &self.levels;
+        levels.len()
+    }
+
     /// The tables of a level, in its order.
     pub fn tables(&self, level: usize) -> &[TableMeta]
         requires { level < N }

@@ -1,15 +1,15 @@
 -- The hull of a plan: the passes by start find it, and what full ranges tell of it.
-use Rattle.std.proofs.Common.{◌≡◌, ◌⊎◌, ℕ, suc, Bool, true, false, not, ◌&&◌, cond, List, [], ◌∷◌, ◌++◌, reverse, map, Option, Some, None, refl, sym, ap, ◌∙◌, subst, inl, inr, tt}
+use Rattle.std.proofs.Common.{◌≡◌, ℕ, suc, Bool, true, List, [], ◌∷◌, reverse, map, Option, Some, None, refl, sym, ◌∙◌, subst, inl, inr}
 use Rattle.std.specs.List.{list_all, AllByRecursion}
 use Rattle.std.specs.List.Sorted.{IsPermutation}
 use Rattle.std.specs.Option.{option_map}
-use Rattle.std.proofs.lemmas.Bool.{and_parts, and_from, cases_Bool, false≢true}
-use Rattle.std.proofs.lemmas.List.Folds.{list_all-map, list_all-append}
+use Rattle.std.proofs.lemmas.Bool.{and_parts, and_from, cases_Bool}
+use Rattle.std.proofs.lemmas.List.Folds.{list_all-map}
 use Rattle.std.proofs.lemmas.List.Sums.{AllPass-from_list_all, list_all-from_AllPass}
 use Rattle.std.proofs.lemmas.List.Sorted.{All-permutation, IsPermutation-sym}
 use Rattle.xdb_key.specs.Bounds.{Bounds, meets, covers, lesser, greater}
 use Rattle.xdb_key.specs.Order.{is_below, is_upto}
-use Rattle.xdb_key.proofs.OrderLaws.{upto_below, below_upto, upto_trans, below_trans, upto_from_below, lesser_upto_first, upto_lesser, greater_upto, first_upto_greater}
+use Rattle.xdb_key.proofs.OrderLaws.{upto_below, below_upto, below_trans, upto_lesser, greater_upto}
 use Rattle.xdb_meta.specs.Table.{Table, bounds_of}
 use Rattle.xdb_lists.specs.Sorted.{is_sorted}
 use Rattle.xdb_edit.specs.Plans.{hull_over, meeting, grown}
@@ -17,7 +17,7 @@ use Rattle.xdb_edit.specs.Versions.{LevelLists, tables_of}
 use Rattle.xdb_edit.proofs.PlanLaws.{hull-covers_all, grown-is_full}
 use Rattle.xdb_pick.specs.Hulls.{both, hull_of, plan_hull, wider, swept, start_cmp}
 use Rattle.xdb_pick.specs.Trying.{takes_whole, is_full}
-use Rattle.xdb_pick.proofs.RangeLaws.{all_each, all_front, all_from_test, all_to_test, all_passing, all_where_passing, covers-itself, covers-chain, covers-one, meets-wider, meets-over, wider-first, covers-wider, wider-has_key, upto_from, never_below, off-apart, whole_tells, whole_where}
+use Rattle.xdb_pick.proofs.RangeLaws.{all_each, all_front, all_from_test, all_to_test, all_passing, all_where_passing, covers-itself, covers-chain, covers-one, meets-wider, wider-first, covers-wider, upto_from, never_below, whole_tells, whole_where}
 use Rattle.xdb_pick.proofs.SweepLaws.{Whole, swept_twice-whole, swept_twice-covers, swept_twice-within}
 
 -- ---- full ranges, by their tables
@@ -57,7 +57,7 @@ grown-keeps P tables next (t ∷ fuel) h p = grown-keeps P tables next fuel (hul
 -- what holds of a range and of what each range of which it holds meets, holds of what grows
 module _ (P : Bounds → Type 0) (join : (r o : Bounds) → P r → P o → P (wider r o)) (c : Bounds) (spreads : (o r : Bounds) → P o → meets o r ≡ true → Whole c r → P r) where
   met-all : (o : Bounds) (ts : List Table) → P o → FullOver c ts → AllByRecursion (λ t. P (bounds_of t)) (meeting o ts)
-  met-all o ts p full = all_passing (λ t. meets o (bounds_of t)) ts (all_each (λ t whole m. spreads o (bounds_of t) p m whole) ts full)
+  met-all o ts p full = all_passing (λ t. P (bounds_of t)) (λ t. meets o (bounds_of t)) ts (all_each (λ t whole m. spreads o (bounds_of t) p m whole) ts full)
 
   pub grown-all : (tables fuel : List Table) (h : Bounds) → FullOver c tables → P h → P (grown tables fuel h)
   grown-all tables fuel h full p = grown-keeps P tables (λ o q. hull_over-keeps P join o (meeting o tables) q (met-all o tables q full)) fuel h p
@@ -76,7 +76,7 @@ module _ (P : Bounds → Type 0) (join : (r o : Bounds) → P r → P o → P (w
       by_first None is e' = absurd cc
       by_first (Some first) is e' =
           let same : grown (both levels level) (both levels level) first ≡ h = cc in
-          subst P same (grown-all (both levels level) (both levels level) first full (first-all (meeting range (tables_of levels level)) first is (met-all range (tables_of levels level) p (all_front (tables_of levels level) (tables_of levels (suc level)) full))))
+          subst P same (grown-all (both levels level) (both levels level) first full (first-all (meeting range (tables_of levels level)) first is (met-all range (tables_of levels level) p (all_front (λ t. Whole c (bounds_of t)) (tables_of levels level) (tables_of levels (suc level)) full))))
 
 -- ---- within a full range, before it and behind it
 
@@ -121,7 +121,7 @@ grown-covers tables fuel h =
 pub grown-full : (tables : List Table) (h : Bounds) → FullOver (grown tables tables h) tables
 grown-full tables h =
     let o = grown tables tables h in
-    all_where_passing (λ t. meets o (bounds_of t)) tables
+    all_where_passing (λ t. covers o (bounds_of t) ≡ true) (λ t. meets o (bounds_of t)) tables
     (subst (λ p. AllByRecursion (λ t. covers p (bounds_of t) ≡ true) (meeting o tables)) (grown-is_full tables h)
     (all_from_test (λ t. covers (hull_over o (meeting o tables)) (bounds_of t)) (meeting o tables) (hull-covers_all o (meeting o tables))))
 

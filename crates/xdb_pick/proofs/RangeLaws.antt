@@ -1,8 +1,8 @@
 -- Ranges that contain others or meet them, and lists of which something holds of each.
-use Rattle.std.proofs.Common.{◌≡◌, ◌⊎◌, ℕ, Bool, true, false, not, ◌&&◌, ◌||◌, cond, List, [], ◌∷◌, ◌++◌, filter, refl, sym, ap, ◌∙◌, inl, inr, ⊤, tt}
+use Rattle.std.proofs.Common.{◌≡◌, ◌⊎◌, ℕ, Bool, true, false, not, ◌&&◌, ◌||◌, cond, List, [], ◌∷◌, ◌++◌, filter, refl, sym, ap, ◌∙◌, inl, inr}
 use Rattle.std.specs.List.{list_all, AllByRecursion}
-use Rattle.std.proofs.lemmas.Bool.{and_parts, and_from, cases_Bool, cond-true, cond-false, false≢true}
-use Rattle.xdb_key.specs.Bounds.{Bounds, bounds, meets, covers, lesser, greater}
+use Rattle.std.proofs.lemmas.Bool.{and_parts, and_from, cases_Bool, false≢true}
+use Rattle.xdb_key.specs.Bounds.{Bounds, bounds, meets, covers}
 use Rattle.xdb_key.specs.Order.{is_below, is_upto}
 use Rattle.xdb_key.proofs.OrderLaws.{upto-itself, upto_trans, upto_antisymm, upto_below, below_upto, below-itself, upto-not_below, lesser_upto_first, lesser_upto_second, upto_lesser, first_upto_greater, second_upto_greater, greater_upto}
 use Rattle.xdb_pick.specs.Hulls.{wider}
@@ -14,13 +14,13 @@ pub all_each : {X : Type 0} {P Q : X → Type 0} → ((x : X) → P x → Q x) �
 all_each f [] h = h
 all_each f (x ∷ xs) h = (f x h.0, all_each f xs h.1)
 
-pub all_front : {X : Type 0} {P : X → Type 0} (xs ys : List X) → AllByRecursion P (xs ++ ys) → AllByRecursion P xs
-all_front [] ys h = tt
-all_front (x ∷ xs) ys h = (h.0, all_front xs ys h.1)
+pub all_front : {X : Type 0} (P : X → Type 0) (xs ys : List X) → AllByRecursion P (xs ++ ys) → AllByRecursion P xs
+all_front P [] ys h = tt
+all_front P (x ∷ xs) ys h = (h.0, all_front P xs ys h.1)
 
-pub all_push : {X : Type 0} {P : X → Type 0} (xs : List X) (y : X) → AllByRecursion P xs → P y → AllByRecursion P (xs ++ y ∷ [])
-all_push [] y h p = (p, tt)
-all_push (x ∷ xs) y h p = (h.0, all_push xs y h.1 p)
+pub all_push : {X : Type 0} (P : X → Type 0) (xs : List X) (y : X) → AllByRecursion P xs → P y → AllByRecursion P (xs ++ y ∷ [])
+all_push P [] y h p = (p, tt)
+all_push P (x ∷ xs) y h p = (h.0, all_push P xs y h.1 p)
 
 pub all_from_test : {X : Type 0} (p : X → Bool) (xs : List X) → list_all p xs ≡ true → AllByRecursion (λ x. p x ≡ true) xs
 all_from_test p [] h = tt
@@ -31,18 +31,18 @@ all_to_test p [] h = refl
 all_to_test p (x ∷ xs) h = and_from _ _ h.0 (all_to_test p xs h.1)
 
 -- what passes the test has what each has that passes it
-pub all_passing : {X : Type 0} {Q : X → Type 0} (p : X → Bool) (xs : List X) → AllByRecursion (λ x. p x ≡ true → Q x) xs → AllByRecursion Q (filter p xs)
-all_passing p [] h = tt
-all_passing {Q} p (x ∷ xs) h = by_case (p x) h.0 (all_passing p xs h.1)
+pub all_passing : {X : Type 0} (Q : X → Type 0) (p : X → Bool) (xs : List X) → AllByRecursion (λ x. p x ≡ true → Q x) xs → AllByRecursion Q (filter p xs)
+all_passing Q p [] h = tt
+all_passing Q p (x ∷ xs) h = by_case (p x) h.0 (all_passing Q p xs h.1)
   where
     by_case : (b : Bool) → (b ≡ true → Q x) → AllByRecursion Q (filter p xs) → AllByRecursion Q (cond b (x ∷ filter p xs) (filter p xs))
     by_case true q rest = (q refl, rest)
     by_case false q rest = rest
 
 -- and back
-pub all_where_passing : {X : Type 0} {Q : X → Type 0} (p : X → Bool) (xs : List X) → AllByRecursion Q (filter p xs) → AllByRecursion (λ x. p x ≡ true → Q x) xs
-all_where_passing p [] h = tt
-all_where_passing {Q} p (x ∷ xs) h = by_case (p x) h (all_where_passing p xs)
+pub all_where_passing : {X : Type 0} (Q : X → Type 0) (p : X → Bool) (xs : List X) → AllByRecursion Q (filter p xs) → AllByRecursion (λ x. p x ≡ true → Q x) xs
+all_where_passing Q p [] h = tt
+all_where_passing Q p (x ∷ xs) h = by_case (p x) h (all_where_passing Q p xs)
   where
     by_case : (b : Bool) → AllByRecursion Q (cond b (x ∷ filter p xs) (filter p xs)) → (AllByRecursion Q (filter p xs) → AllByRecursion (λ y. p y ≡ true → Q y) xs) → (b ≡ true → Q x) × AllByRecursion (λ y. p y ≡ true → Q y) xs
     by_case true all rest = (λ _. all.0, rest all.1)

@@ -1,6 +1,6 @@
 -- Plans by their hulls, and tables for which there is none.
-use Rattle.std.proofs.Common.{◌≡◌, ◌⊎◌, ◌<◌, ◌≤◌, ℕ, suc, Bool, true, false, not, ◌&&◌, ◌||◌, cond, ltb, List, [], ◌∷◌, ◌++◌, Option, Some, None, refl, sym, ap, ◌∙◌, subst, inl, inr, arith}
-use Rattle.std.specs.List.{list_all, list_any, AllByRecursion}
+use Rattle.std.proofs.Common.{◌≡◌, ◌<◌, ℕ, suc, Bool, true, false, not, ◌||◌, ltb, List, [], ◌∷◌, ◌++◌, Option, Some, None, refl, sym, ap, ◌∙◌, subst, inl, inr, arith}
+use Rattle.std.specs.List.{list_any, AllByRecursion}
 use Rattle.std.specs.Option.{option_map}
 use Rattle.std.proofs.lemmas.Bool.{and_parts, and_from, cases_Bool, or_cases, cond-true, cond-false, le-ltb, lt-ltb, false≢true}
 use Rattle.std.proofs.lemmas.List.Folds.{list_all-append}
@@ -73,7 +73,7 @@ hull-has levels level t h member range e =
     let b = begun levels level (bounds_of t) h e in
     let ts = tables_of levels level in
     let first = b.first in
-    let each = all_where_passing (λ u. meets (bounds_of t) (bounds_of u)) ts (first-covers (meeting (bounds_of t) ts) first b.over) in
+    let each = all_where_passing (λ u. covers first (bounds_of u) ≡ true) (λ u. meets (bounds_of t) (bounds_of u)) ts (first-covers (meeting (bounds_of t) ts) first b.over) in
     let test = member (λ u. not (meets (bounds_of t) (bounds_of u)) || covers first (bounds_of u))
     (all_to_test (λ u. not (meets (bounds_of t) (bounds_of u)) || covers first (bounds_of u)) ts (all_each (λ u. implies (meets (bounds_of t) (bounds_of u)) (covers first (bounds_of u))) ts each)) in
     let inside : covers first (bounds_of t) ≡ true = implied (meets (bounds_of t) (bounds_of t)) (covers first (bounds_of t)) test (and_from _ _ range range) in
@@ -159,4 +159,4 @@ hull-shut levels running level t h member e met = record {
 }
 
 pub shut-pushed : (levels : LevelLists) (running : List Bounds) (level : ℕ) (fs : List Bounds) (h : Bounds) → AreShut levels running level fs → IsShut levels running level h → AreShut levels running level (fs ++ h ∷ [])
-shut-pushed levels running level fs h shut one = all_push fs h shut one
+shut-pushed levels running level fs h shut one = all_push (IsShut levels running level) fs h shut one

@@ -1,12 +1,12 @@
 -- A range that is widened by each of some ranges that it meets. Where they stand by their starts, one pass up
 -- and one pass down leave it with the whole of each that it meets.
-use Rattle.std.proofs.Common.{◌≡◌, ◌⊎◌, ℕ, Bool, true, false, not, ◌&&◌, cond, List, [], ◌∷◌, ◌++◌, reverse, refl, sym, ap, ◌∙◌, subst, inl, inr, ⊤, tt}
+use Rattle.std.proofs.Common.{◌≡◌, ℕ, Bool, true, false, ◌&&◌, cond, List, [], ◌∷◌, ◌++◌, reverse, refl, sym, ap, ◌∙◌, subst, inl, inr}
 use Rattle.std.specs.List.{list_all, AllByRecursion}
 use Rattle.std.proofs.lemmas.Bool.{and_parts, and_from, cases_Bool, cond-true, cond-false, false≢true}
 use Rattle.std.proofs.lemmas.Grind.{reverse_onto}
 use Rattle.xdb_key.specs.Bounds.{Bounds, meets, covers, lesser, greater}
 use Rattle.xdb_key.specs.Order.{is_below, is_upto}
-use Rattle.xdb_key.proofs.OrderLaws.{upto_trans, upto_antisymm, upto_below, below_upto, upto_from_below, upto-itself, first_upto_greater, greater_upto}
+use Rattle.xdb_key.proofs.OrderLaws.{upto_trans, upto_antisymm, upto_from_below, upto-itself, first_upto_greater, greater_upto}
 use Rattle.xdb_lists.specs.Sorted.{is_sorted}
 use Rattle.xdb_pick.specs.Hulls.{wider, swept, start_cmp}
 use Rattle.xdb_pick.proofs.RangeLaws.{all_each, all_from_test, covers-itself, covers-chain, meets-wider, wider-first, wider-second, covers-wider, wider-has_key, never_below, off-apart}

@@ -16,6 +16,10 @@ plan_of_due levels running level ts = if is_due level ts then plan_of_first leve
 abbrev pub IsTableOf : LevelLists → ℕ → Table → Type 0
 IsTableOf levels level t = (p : Table → Bool) → list_all p (tables_of levels level) ≡ true → p t ≡ true
 
+-- and of each of these
+abbrev pub AreTablesOf : LevelLists → ℕ → List Table → Type 0
+AreTablesOf levels level ts = (p : Table → Bool) → list_all p (tables_of levels level) ≡ true → list_all p ts ≡ true
+
 -- the range has the other whole where it meets it
 abbrev pub takes_whole : Bounds → Bounds → Bool
 takes_whole c r = not (meets c r) || covers c r

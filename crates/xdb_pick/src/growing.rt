@@ -32,8 +32,9 @@ fn hull_over<'a>(tables: &'a [TableMeta], range: &KeyRange) -> Option<Hull<'a>>
 {
     let mut hull = None;
     for table in tables {
-        if range.meets(table.range()) {
-            hull = Some(with(hull, table.range()));
+        let bounds = table.range();
+        if range.meets(bounds) {
+            hull = Some(with(hull, bounds));
         }
     }
     hull
@@ -54,6 +55,7 @@ fn grown<'a>(v: &'a Version, level: usize, hull: Hull<'a>) -> Result<Hull<'a>, A
     requires { level < 6 }
     ensures { IfOk result (λ grew. grew ≡ grown (both v.now level) (both v.now level) hull.entry) }
 {
+    prove!(hull.has_key());
     let mut ranges = by_start(v, level)?;
     let up = hull.swept(&ranges);
     ranges.reverse();

@@ -55,6 +55,14 @@ impl<'a> Hull<'a> {
         }
     }
 
+    /// Whether it begins before it ends, as each hull does.
+    pub fn has_key(&self) -> bool
+        ensures all { IsTrue result }
+        ensures has_key { IsTrue (is_below self.now.lo self.now.hi) }
+    {
+        is_below(self.lo.bytes(), self.hi.bytes())
+    }
+
     /// The hull, widened by each of the ranges that it meets, one after the other.
     pub fn swept(self, ranges: &[&'a KeyRange]) -> Self
         ensures { result ≡ swept self.entry (lent ranges.now) }

@@ -4,7 +4,8 @@ ghost use Rattle.std.specs.Option.{option_map};
 ghost use Rattle.xdb_meta.specs.Table.{bounds_of};
 ghost use Rattle.xdb_edit.specs.Plans.{planned, plan_for, is_due, in_turn, plan_of_first, pick};
 ghost use Rattle.xdb_edit.specs.Versions.{tables_of};
-ghost use Rattle.xdb_pick.specs.Trying.{plan_of_due, IsTableOf, AreShut};
+ghost use Rattle.xdb_pick.specs.Hulls.{lent};
+ghost use Rattle.xdb_pick.specs.Trying.{plan_of_due, IsTableOf, AreTablesOf, AreShut};
 
 use crate::Plan;
 use crate::growing::plan_hull;
@@ -29,10 +30,9 @@ const L1_BYTES: u64 = 65_536;
 pub fn pick(v: &Version, running: &[KeyRange]) -> Result<Option<Plan>, AllocError>
     ensures { IfOk result (λ plan. plan ≡ pick v.now running.now) }
 {
-    for level in 0..6 {
-        let plan = plan_of_level(v, running, level)?;
-        if plan.is_some() {
-            return Ok(plan);
+    for level in 0..v.count() - 1 {
+        if let Some(plan) = plan_of_level(v, running, level)? {
+            return Ok(Some(plan));
         }
     }
     Ok(None)
@@ -79,8 +79,6 @@ fn have_more(tables: &[TableMeta], most: u64) -> bool
     false
 }
 
-/// The first plan for one of the tables of a level. Tables within a hull that a running compaction meets have
-/// no plan, so few hulls are found in vain: two for each running compaction at most.
 fn plan_of_first(
     v: &Version,
     running: &[KeyRange],
@@ -89,8 +87,23 @@ fn plan_of_first(
     requires { level < 6 }
     ensures { IfOk result (λ plan. plan ≡ plan_of_first v.now running.now level (in_turn level (tables_of v.now level))) }
 {
+    first_plan(v, running, level, &in_turn(v, level)?)
+}
+
+/// The first plan for one of the tables of a level. Tables within a hull that a running compaction meets have
+/// no plan, so few hulls are found in vain: two for each running compaction at most.
+fn first_plan(
+    v: &Version,
+    running: &[KeyRange],
+    level: usize,
+    tables: &[&TableMeta],
+) -> Result<Option<Plan>, AllocError>
+    requires level { level < 6 }
+    requires tables { AreTablesOf v.now level (lent tables.now) }
+    ensures { IfOk result (λ plan. plan ≡ plan_of_first v.now running.now level (lent tables.now)) }
+{
     let mut shut = Vec::new(v.allocator());
-    for table in &in_turn(v, level)? {
+    for table in tables {
         if let Some(hull) = free_hull(v, running, level, table, &mut shut)? {
             return Ok(Some(planned(v, level, hull)?));
         }

@@ -26,12 +26,13 @@ pub fn place(v: &Version, running: &[KeyRange], bounds: &KeyRange) -> usize
 fn free_levels(v: &Version, bounds: &KeyRange) -> usize
     ensures { result ≡ free_levels v.now bounds.now }
 {
-    for level in 0..7 {
+    let levels = v.count();
+    for level in 0..levels {
         if is_met(v, level, bounds) {
             return level;
         }
     }
-    7
+    levels
 }
 
 /// Whether a table of the level meets the bounds.

@@ -81,7 +81,7 @@ fn floor(v: &Version, from: usize) -> Result<Vec<KeyRange>, AllocError>
     ensures { IfOk result (λ floor. floor.items ≡ map bounds_of (flat_map (λ ts. ts) (drop from v.now))) }
 {
     let mut floor = Vec::new(v.allocator());
-    for level in from..7 {
+    for level in from..v.count() {
         put_bounds(&mut floor, v.tables(level))?;
     }
     Ok(floor)
