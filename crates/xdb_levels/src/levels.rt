@@ -1,7 +1,7 @@
 ghost use Rattle.std.specs.Prelude.{◌≡◌, ◌≤◌, ◌<◌, ◌⊎◌, [], Some, replicate, IsTrue, IfOk, IfErr, OnOk};
 ghost use Rattle.xdb_edit.specs.Plans.{meeting};
 ghost use Rattle.xdb_edit.specs.Versions.{edited, applies, tables_of};
-ghost use Rattle.xdb_levels.specs.Levels.{IsLevels, overlapping};
+ghost use Rattle.xdb_levels.specs.Levels.{IsLevels, met, overlapping};
 ghost use Rattle.xdb_levels.specs.Applying.{names_below, refusal};
 ghost use Rattle.xdb_levels.specs.declared.error.ApplyNo.TheVariants.{Memory};
 
@@ -79,8 +79,8 @@ impl<const N: usize> Levels<N> {
     /// by two binary searches; in L0, where tables may overlap, all of its tables. Takes no memory.
     pub fn candidates(&self, level: usize, range: &KeyRange) -> &[TableMeta]
         requires { level < N }
-        ensures meeting { meeting range.now result.now ≡ meeting range.now (tables_of self.now level) }
-        ensures above_l0 { 1 ≤ level → result.now ≡ meeting range.now (tables_of self.now level) }
+        ensures meeting { meeting range.now result.now ≡ met self.now level range.now }
+        ensures above_l0 { 1 ≤ level → result.now ≡ met self.now level range.now }
         ensures levels { IsLevels N self.now }
     {
         let tables = self.levels[level].list();

@@ -2,7 +2,7 @@
 use Rattle.std.proofs.Common.{◌≡◌, ◌<◌, ℕ, suc, Bool, true, false, not, ◌||◌, ltb, List, [], ◌∷◌, ◌++◌, Option, Some, None, refl, sym, ap, ◌∙◌, subst, inl, inr, arith}
 use Rattle.std.specs.List.{list_any, AllByRecursion}
 use Rattle.std.specs.Option.{option_map}
-use Rattle.std.proofs.lemmas.Bool.{and_parts, and_from, cases_Bool, or_cases, cond-true, cond-false, le-ltb, lt-ltb, false≢true}
+use Rattle.std.proofs.lemmas.Bool.{and_parts, and_from, cases_Bool, or_cases, cond-true, cond-false, le-ltb, false≢true}
 use Rattle.std.proofs.lemmas.List.Folds.{list_all-append}
 use Rattle.xdb_key.specs.Bounds.{Bounds, meets, covers}
 use Rattle.xdb_key.specs.Order.{is_below, is_upto}
@@ -37,13 +37,6 @@ plan-none levels running level range high none = plan_for-over levels running le
 pub plan-met : (levels : LevelLists) (running : List Bounds) (level : ℕ) (range h : Bounds) → level < 6 → plan_hull levels level range ≡ Some h → list_any (meets h) running ≡ true → plan_for levels running level range ≡ None
 plan-met levels running level range h high is met =
     plan_for-over levels running level range high ∙ ap (plan_over levels running level) is ∙ cond-true (list_any (meets h) running) None (Some (planned levels level h)) met
-
-pub plan-free : (levels : LevelLists) (running : List Bounds) (level : ℕ) (range h : Bounds) → level < 6 → plan_hull levels level range ≡ Some h → list_any (meets h) running ≡ false → plan_for levels running level range ≡ Some (planned levels level h)
-plan-free levels running level range h high is off =
-    plan_for-over levels running level range high ∙ ap (plan_over levels running level) is ∙ cond-false (list_any (meets h) running) None (Some (planned levels level h)) off
-
-pub plan-deep : (levels : LevelLists) (running : List Bounds) (level : ℕ) (range : Bounds) → 5 < level → plan_for levels running level range ≡ None
-plan-deep levels running level range deep = cond-true (ltb 5 level) None (plan_from levels running level (meeting range (tables_of levels level))) (lt-ltb 5 level deep)
 
 -- ---- the hull of the plan for a table
 

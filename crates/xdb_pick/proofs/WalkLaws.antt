@@ -1,5 +1,5 @@
 -- The walks over tables and over levels: what is left says what the whole says.
-use Rattle.std.proofs.Common.{◌≡◌, ℕ, zero, suc, ◌+◌, ◌-◌, ◌*◌, ◌<◌, ◌≤◌, ◌^◌, Bool, true, false, ◌||◌, cond, ltb, List, [], ◌∷◌, ◌++◌, length, get_or, take, drop, map, sum, filter, Some, None, Bor, refl, sym, ap, ◌∙◌, append_assoc, arith}
+use Rattle.std.proofs.Common.{◌≡◌, ℕ, zero, suc, ◌+◌, ◌-◌, ◌<◌, ◌≤◌, ◌^◌, Bool, true, false, ◌||◌, cond, ltb, List, [], ◌∷◌, ◌++◌, length, get_or, take, drop, map, sum, filter, Some, None, Bor, refl, sym, ap, ◌∙◌, append_assoc, arith}
 use Rattle.std.specs.List.{list_all, list_any, flat_map}
 use Rattle.std.proofs.lemmas.Bool.{lt-ltb}
 use Rattle.std.proofs.lemmas.List.{drop_more, drop_all, take_more, append-nil, length-take-le, get_or-take, get_or-map, length-map, map-append}
@@ -8,10 +8,10 @@ use Rattle.std.proofs.lemmas.List.Sums.{AllPass-from_list_all, sum_by-cons, sum_
 use Rattle.xdb_key.specs.Bounds.{Bounds, meets}
 use Rattle.xdb_meta.specs.Table.{Table, bounds_of}
 use Rattle.xdb_lists.proofs.SortedLaws.{all_put_all_in}
-use Rattle.xdb_edit.specs.Plans.{Planned, hull_over, meeting, num_cmp, is_due, in_turn, plan_for, plan_of_first, pick_from, pick, free_levels}
+use Rattle.xdb_edit.specs.Plans.{Planned, hull_over, meeting, num_cmp, in_turn, plan_for, plan_of_first, pick_from, pick, free_levels}
 use Rattle.xdb_edit.specs.Versions.{LevelLists, tables_of, or_else}
 use Rattle.xdb_levels.proofs.LevelLaws.{tables_of-get_or}
-use Rattle.xdb_pick.specs.Hulls.{hull_of, hull_with, lent, wider}
+use Rattle.xdb_pick.specs.Hulls.{hull_of, hull_with, lent, lent_name, wider}
 use Rattle.xdb_pick.specs.Trying.{plan_of_due, IsTableOf, AreTablesOf}
 
 -- the element at a place, before what is behind it
@@ -53,9 +53,6 @@ level_met v b i l met so_far =
     let here : free_levels (drop i v) b ≡ 0 =
     ap (λ ls. free_levels ls b) (level_at v i l) ∙ ap (λ (t : Bool). cond t 0 (suc (free_levels (drop (i + 1) v) b))) met in
     sym (so_far ∙ ap (λ n. i + n) here ∙ omega arith)
-
-pub all_free : (v : LevelLists) (b : Bounds) (i : ℕ) → length v ≤ i → free_levels v b ≡ i + free_levels (drop i v) b → i ≡ free_levels v b
-all_free v b i l so_far = sym (so_far ∙ ap (λ ls. i + free_levels ls b) (drop_all i v l) ∙ omega arith)
 
 -- ---- the floor
 
@@ -133,12 +130,6 @@ power_small (suc (suc (suc (suc zero)))) l = omega arith
 power_small (suc (suc (suc (suc (suc zero))))) l = omega arith
 power_small (suc (suc (suc (suc (suc (suc n)))))) l = absurd (omega arith)
 
-pub due_below : (level : ℕ) (ts : List Table) → (level ≡ 0 → ⊥) → ltb (65536 * 8 ^ (level - 1)) (sum (map (λ t. t.size) ts)) ≡ is_due level ts
-due_below zero ts some = absurd (some refl)
-due_below (suc level) ts some =
-    let e : suc level - 1 ≡ level = omega arith in
-    ap (λ (n : ℕ). ltb (65536 * 8 ^ n) (sum (map (λ t. t.size) ts))) e
-
 -- ---- tables in turn
 
 turn-all : (p : Table → Bool) (level : ℕ) (ts : List Table) → list_all p ts ≡ true → list_all p (in_turn level ts) ≡ true
@@ -163,9 +154,6 @@ first-found v running level order i t p l read found so_far =
     ∙ sym (ap (plan_of_first v running level) (split_at order i t l read))
     ∙ so_far
 
-pub first-none : (v : LevelLists) (running : List Bounds) (level : ℕ) (order : List Table) (i : ℕ) → length order ≤ i → plan_of_first v running level (drop i order) ≡ plan_of_first v running level order → None ≡ plan_of_first v running level order
-first-none v running level order i l so_far = sym (ap (plan_of_first v running level) (drop_all i order l)) ∙ so_far
-
 -- ---- levels in turn
 
 six-at : (v : LevelLists) (i : ℕ) → length v ≡ 7 → i < 6 → drop i (take 6 v) ≡ tables_of v i ∷ drop (i + 1) (take 6 v)
@@ -183,13 +171,6 @@ pub pick-next : (v : LevelLists) (running : List Bounds) (i : ℕ) → length v 
 pick-next v running i count l none so_far =
     sym (ap (λ o. or_else o (pick_from v running (i + 1) (drop (i + 1) (take 6 v)))) none) ∙ sym (first-of v running i count l) ∙ so_far
 
-pub pick-found : (v : LevelLists) (running : List Bounds) (i : ℕ) (p : Planned) → length v ≡ 7 → i < 6 → plan_of_due v running i (tables_of v i) ≡ Some p → pick_from v running i (drop i (take 6 v)) ≡ pick v running → Some p ≡ pick v running
-pick-found v running i p count l found so_far =
-    sym (ap (λ o. or_else o (pick_from v running (i + 1) (drop (i + 1) (take 6 v)))) found) ∙ sym (first-of v running i count l) ∙ so_far
-
-pub pick-none : (v : LevelLists) (running : List Bounds) (i : ℕ) → length v ≡ 7 → 6 ≤ i → pick_from v running i (drop i (take 6 v)) ≡ pick v running → None ≡ pick v running
-pick-none v running i count l so_far = sym (ap (pick_from v running i) (drop_all i (take 6 v) (omega (arith, length-take-le 6 v (omega arith))))) ∙ so_far
-
 pub get_or-lent : {X : Type 0} (xs : List (Bor X)) (i : ℕ) (x : Bor X) → i < length xs → x ≡ get_or xs i x → x.now ≡ get_or (lent xs) i x.now
 get_or-lent {X} xs i x l read =
     let now : Bor X → X = λ y. y.now in
@@ -201,9 +182,6 @@ length-lent xs = length-map xs (λ y. y.now)
 -- a table by its level and number
 abbrev pub name : ℕ → Table → ℕ × ℕ
 name level t = (level, t.num)
-
-abbrev pub lent_name : ℕ → Bor Table → ℕ × ℕ
-lent_name level t = (level, t.now.num)
 
 pub names-lent : (level : ℕ) (xs : List (Bor Table)) → map (lent_name level) xs ≡ map (name level) (lent xs)
 names-lent level [] = refl

@@ -1,16 +1,37 @@
 -- The tables of a level that is due, which are tried in turn, and what a try in vain tells of others.
 use Rattle.std.specs.Prelude.{◌≡◌, ℕ, Bool, true, ◌||◌, not, List, Option, None, if◌then◌else◌}
+use Rattle.std.specs.Borrow.{Bor}
 use Rattle.std.specs.List.{list_all, list_any, AllByRecursion}
+use Rattle.std.specs.Option.{option_map}
 use Rattle.xdb_key.specs.Bounds.{Bounds, meets, covers}
 use Rattle.xdb_key.specs.Order.{is_below}
 use Rattle.xdb_meta.specs.Table.{Table, bounds_of}
-use Rattle.xdb_edit.specs.Plans.{Planned, is_due, in_turn, plan_of_first}
+use Rattle.xdb_edit.specs.Plans.{Planned, planned, plan_for, is_due, in_turn, plan_of_first}
 use Rattle.xdb_edit.specs.Versions.{LevelLists, tables_of}
-use Rattle.xdb_pick.specs.Hulls.{both}
+use Rattle.xdb_pick.specs.Hulls.{both, lent}
+
+-- the tables of a level, in turn
+abbrev pub turn : LevelLists → ℕ → List Table
+turn levels level = in_turn level (tables_of levels level)
 
 -- the first plan for one of the tables of a level, where it is due
 abbrev pub plan_of_due : LevelLists → List Bounds → ℕ → List Table → Option Planned
 plan_of_due levels running level ts = if is_due level ts then plan_of_first levels running level (in_turn level ts) else None
+
+-- that of a level of the version
+abbrev pub plan_of_level : LevelLists → List Bounds → ℕ → Option Planned
+plan_of_level levels running level = plan_of_due levels running level (tables_of levels level)
+
+-- the first plan for one of these tables, which are lent
+abbrev pub first_of : LevelLists → List Bounds → ℕ → List (Bor Table) → Option Planned
+first_of levels running level ts = plan_of_first levels running level (lent ts)
+
+abbrev pub plan_of_table : LevelLists → List Bounds → ℕ → Table → Option Planned
+plan_of_table levels running level t = plan_for levels running level (bounds_of t)
+
+-- the plan over a hull, where there is one
+abbrev pub over : LevelLists → ℕ → Option Bounds → Option Planned
+over levels level hull = option_map (planned levels level) hull
 
 -- whatever holds of each table of the level holds of it
 abbrev pub IsTableOf : LevelLists → ℕ → Table → Type 0

@@ -1,7 +1,7 @@
 //! The hull of a plan: where it begins, and how it grows.
 ghost use Rattle.std.specs.Prelude.{◌≡◌, ◌<◌, IfOk};
-ghost use Rattle.xdb_edit.specs.Plans.{meeting, grown};
-ghost use Rattle.xdb_pick.specs.Hulls.{both, hull_of, hull_with, plan_hull};
+ghost use Rattle.xdb_edit.specs.Plans.{meeting};
+ghost use Rattle.xdb_pick.specs.Hulls.{grown_over, hull_of, hull_with, plan_hull};
 
 use crate::hull::Hull;
 use crate::ordering::by_start;
@@ -53,7 +53,7 @@ fn with<'a>(hull: Option<Hull<'a>>, range: &'a KeyRange) -> Hull<'a>
 /// begin, one pass up finds all that it meets above its start, and one pass down all below.
 fn grown<'a>(v: &'a Version, level: usize, hull: Hull<'a>) -> Result<Hull<'a>, AllocError>
     requires { level < 6 }
-    ensures { IfOk result (λ grew. grew ≡ grown (both v.now level) (both v.now level) hull.entry) }
+    ensures { IfOk result (λ grew. grew ≡ grown_over v.now level hull.entry) }
 {
     prove!(hull.has_key());
     let mut ranges = by_start(v, level)?;

@@ -3,9 +3,10 @@ ghost use Rattle.std.specs.Prelude.{◌≡◌, ◌++◌, ◌+◌, ◌<◌, map, 
 ghost use Rattle.std.specs.List.Sorted.{IsPermutation};
 ghost use Rattle.xdb_lists.specs.Sorted.{is_sorted};
 ghost use Rattle.xdb_meta.specs.Table.{bounds_of};
-ghost use Rattle.xdb_edit.specs.Plans.{by_num, meeting, in_turn};
-ghost use Rattle.xdb_edit.specs.Versions.{tables_of};
-ghost use Rattle.xdb_pick.specs.Hulls.{both, lent, start_cmp};
+ghost use Rattle.xdb_edit.specs.Plans.{by_num};
+ghost use Rattle.xdb_levels.specs.Levels.{met};
+ghost use Rattle.xdb_pick.specs.Hulls.{all_bounds, lent, start_cmp};
+ghost use Rattle.xdb_pick.specs.Trying.{turn};
 
 use std::alloc::AllocError;
 use xdb_key::{KeyRange, compare};
@@ -19,7 +20,7 @@ fn meeting<'a>(
     range: &KeyRange,
 ) -> Result<Vec<&'a TableMeta>, AllocError>
     requires { level < 7 }
-    ensures { IfOk result (λ found. lent found.items ≡ meeting range.now (tables_of v.now level)) }
+    ensures { IfOk result (λ found. lent found.items ≡ met v.now level range.now) }
 {
     let tables = v.candidates(level, range);
     let mut found = Vec::new(v.allocator());
@@ -47,7 +48,7 @@ pub fn inputs<'a>(
     hull: &KeyRange,
 ) -> Result<Vec<&'a TableMeta>, AllocError>
     requires { level < 7 }
-    ensures { IfOk result (λ found. lent found.items ≡ by_num (meeting hull.now (tables_of v.now level))) }
+    ensures { IfOk result (λ found. lent found.items ≡ by_num (met v.now level hull.now)) }
 {
     by_num(meeting(v, level, hull)?)
 }
@@ -55,7 +56,7 @@ pub fn inputs<'a>(
 /// The tables of a level in the order in which plans are tried for them.
 pub fn in_turn(v: &Version, level: usize) -> Result<Vec<&TableMeta>, AllocError>
     requires { level < 7 }
-    ensures { IfOk result (λ tables. lent tables.items ≡ in_turn level (tables_of v.now level)) }
+    ensures { IfOk result (λ tables. lent tables.items ≡ turn v.now level) }
 {
     let tables = v.tables(level).iter().collect(v.allocator())?;
     if level == 0 {
@@ -69,7 +70,7 @@ pub fn in_turn(v: &Version, level: usize) -> Result<Vec<&TableMeta>, AllocError>
 pub fn by_start(v: &Version, level: usize) -> Result<Vec<&KeyRange>, AllocError>
     requires { level < 6 }
     ensures sorted { IfOk result (λ ranges. IsTrue (is_sorted start_cmp (lent ranges.items))) }
-    ensures all { IfOk result (λ ranges. IsPermutation (map bounds_of (both v.now level)) (lent ranges.items)) }
+    ensures all { IfOk result (λ made. IsPermutation (all_bounds v.now level) (lent made.items)) }
 {
     let mut ranges = Vec::new(v.allocator());
     put_ranges(&mut ranges, v.tables(level))?;

@@ -1,11 +1,8 @@
 //! The compaction that is most wanted.
 ghost use Rattle.std.specs.Prelude.{◌≡◌, ◌≤◌, ◌<◌, ◌*◌, ◌-◌, ◌^◌, map, sum, nat_lt, IfOk, OnOk};
-ghost use Rattle.std.specs.Option.{option_map};
-ghost use Rattle.xdb_meta.specs.Table.{bounds_of};
-ghost use Rattle.xdb_edit.specs.Plans.{planned, plan_for, is_due, in_turn, plan_of_first, pick};
-ghost use Rattle.xdb_edit.specs.Versions.{tables_of};
+ghost use Rattle.xdb_edit.specs.Plans.{is_due, plan_of_first, pick};
 ghost use Rattle.xdb_pick.specs.Hulls.{lent};
-ghost use Rattle.xdb_pick.specs.Trying.{plan_of_due, IsTableOf, AreTablesOf, AreShut};
+ghost use Rattle.xdb_pick.specs.Trying.{turn, plan_of_level, first_of, plan_of_table, over, IsTableOf, AreTablesOf, AreShut};
 
 use crate::Plan;
 use crate::growing::plan_hull;
@@ -44,7 +41,7 @@ fn plan_of_level(
     level: usize,
 ) -> Result<Option<Plan>, AllocError>
     requires { level < 6 }
-    ensures { IfOk result (λ plan. plan ≡ plan_of_due v.now running.now level (tables_of v.now level)) }
+    ensures { IfOk result (λ plan. plan ≡ plan_of_level v.now running.now level) }
 {
     if is_due(level, v.tables(level)) {
         plan_of_first(v, running, level)
@@ -85,7 +82,7 @@ fn plan_of_first(
     level: usize,
 ) -> Result<Option<Plan>, AllocError>
     requires { level < 6 }
-    ensures { IfOk result (λ plan. plan ≡ plan_of_first v.now running.now level (in_turn level (tables_of v.now level))) }
+    ensures { IfOk result (λ p. p ≡ plan_of_first v.now running.now level (turn v.now level)) }
 {
     first_plan(v, running, level, &in_turn(v, level)?)
 }
@@ -100,7 +97,7 @@ fn first_plan(
 ) -> Result<Option<Plan>, AllocError>
     requires level { level < 6 }
     requires tables { AreTablesOf v.now level (lent tables.now) }
-    ensures { IfOk result (λ plan. plan ≡ plan_of_first v.now running.now level (lent tables.now)) }
+    ensures { IfOk result (λ plan. plan ≡ first_of v.now running.now level tables.now) }
 {
     let mut shut = Vec::new(v.allocator());
     for table in tables {
@@ -123,7 +120,8 @@ fn free_hull(
     requires level { level < 6 }
     requires table { IsTableOf v.now level table.now }
     requires shut { AreShut v.now running.now level shut.old.items }
-    ensures plan { IfOk result (λ hull. option_map (planned v.now level) hull ≡ plan_for v.now running.now level (bounds_of table.now)) }
+    ensures plan { IfOk result (λ hull. over v.now level hull
+        ≡ plan_of_table v.now running.now level table.now) }
     ensures shut { OnOk result (AreShut v.now running.now level shut.new.items) }
 {
     let range = table.range();

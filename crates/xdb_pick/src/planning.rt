@@ -1,8 +1,8 @@
 //! Plans for a range.
-ghost use Rattle.std.specs.Prelude.{◌≡◌, ◌≤◌, ◌<◌, ◌++◌, map, drop, IfOk, OnOk};
-ghost use Rattle.std.specs.List.{flat_map};
+ghost use Rattle.std.specs.Prelude.{◌≡◌, ◌≤◌, ◌<◌, ◌++◌, map, IfOk, OnOk};
 ghost use Rattle.xdb_meta.specs.Table.{bounds_of};
 ghost use Rattle.xdb_edit.specs.Plans.{inputs_at, planned, plan_for};
+ghost use Rattle.xdb_pick.specs.Hulls.{bounds_from, lent_name};
 
 use crate::Plan;
 use crate::growing::plan_hull;
@@ -67,7 +67,7 @@ fn put_inputs(
 }
 
 fn put_names(out: &mut Vec<(u8, u64)>, level: u8, tables: &[&TableMeta]) -> Result<(), AllocError>
-    ensures { OnOk result (out.new.items ≡ out.old.items ++ map (λ t. (level, t.now.num)) tables.now) }
+    ensures { OnOk result (out.new.items ≡ out.old.items ++ map (lent_name level) tables.now) }
 {
     for table in tables {
         out.push((level, table.num()))?;
@@ -78,7 +78,7 @@ fn put_names(out: &mut Vec<(u8, u64)>, level: u8, tables: &[&TableMeta]) -> Resu
 /// The bounds of the tables from a level on.
 fn floor(v: &Version, from: usize) -> Result<Vec<KeyRange>, AllocError>
     requires { from ≤ 7 }
-    ensures { IfOk result (λ floor. floor.items ≡ map bounds_of (flat_map (λ ts. ts) (drop from v.now))) }
+    ensures { IfOk result (λ floor. floor.items ≡ bounds_from v.now from) }
 {
     let mut floor = Vec::new(v.allocator());
     for level in from..v.count() {

@@ -1,6 +1,7 @@
 -- The inputs are named in their order.
 use Rattle.std.proofs.Common.{◌≡◌, ◌++◌, ℕ, List, map, OnOk, ap, subst, ◌∙◌}
-use Rattle.xdb_pick.proofs.WalkLaws.{name, lent_name, names-lent}
+use Rattle.xdb_pick.specs.Hulls.{lent_name}
+use Rattle.xdb_pick.proofs.WalkLaws.{name, names-lent}
 use Rattle.xdb_pick.proofs.planning.put_inputs.Goals as goal
 
 pub returns : goal.returns
