@@ -2,8 +2,7 @@
 use Rattle.std.proofs.Common.{◌≡◌, ℕ, true, List, [], ◌∷◌, ◌++◌, append-nil, append_assoc, reverse, Some, None, refl, sym, ap, ◌∙◌, subst}
 use Rattle.std.specs.List.{list_all}
 use Rattle.std.proofs.lemmas.Bool.{and_parts}
-use Rattle.std.proofs.lemmas.List.{reverse-append, reverse-reverse}
-use Rattle.std.proofs.lemmas.List.Elements.{All-nil}
+use Rattle.std.proofs.lemmas.List.{reverse-append}
 use Rattle.std.proofs.lemmas.List.Folds.{list_all-append}
 use Rattle.xdb_engine.specs.Notes.{plain_note}
 use Rattle.xdb_engine.specs.Seen.{Seen, plain_of, Adds}
@@ -18,13 +17,12 @@ use Rattle.xdb_plain.specs.declared.act.By.TheVariants.{Db}
 use Rattle.xdb_plain.specs.declared.act.CommitForm.{CommitForm}
 use Rattle.xdb_plain.specs.declared.note.Note.{Note}
 use Rattle.xdb_plain.specs.declared.reply.Reply.{Reply}
-use Rattle.xdb_plain.specs.declared.script.Cmd.{Cmd}
 use Rattle.xdb_plain.specs.declared.script.Cmd.TheVariants as cmd
 use Rattle.xdb_plain.specs.declared.script.Line.{Line}
 use Rattle.xdb_plain.specs.Tables.{TableOps}
 use Rattle.xdb_plain.proofs.RunLaws.{blocks-push, behind-push, run-ends}
 use Rattle.xdb_run.specs.Built.{is_run}
-use Rattle.xdb_run.specs.Running.{Awaits, IsAt, TakesLine, HasTakenLines, StillTakesLines}
+use Rattle.xdb_run.specs.Running.{IsAt, TakesLine, HasTakenLines, StillTakesLines}
 use Rattle.xdb_run.proofs.StateLaws.{grows-none, grows-one, takes-alike}
 
 -- the line that is taken from those left

@@ -1,5 +1,5 @@
 -- What a run says of open questions, and what a settle and a question in parts add.
-use Rattle.std.proofs.Common.{◌≡◌, ℕ, ◌+◌, ◌≤◌, Bool, true, false, not, ◌&&◌, cond, eqb, List, [], ◌∷◌, ◌++◌, get_or, Option, Some, None, is_some, refl, sym, ap, ◌∙◌, subst, arith}
+use Rattle.std.proofs.Common.{◌≡◌, ℕ, ◌+◌, ◌≤◌, Bool, true, false, not, ◌&&◌, cond, eqb, List, [], ◌∷◌, get_or, Option, Some, None, is_some, refl, sym, ap, ◌∙◌, subst, arith}
 use Rattle.std.specs.List.{All}
 use Rattle.std.proofs.lemmas.Bool.{ne_eqb}
 use Rattle.std.proofs.lemmas.List.Elements.{All-filter, All-push}
@@ -98,8 +98,8 @@ module _ {F : Type 0} where
   asked-await gs next asked later old new by question reply.Memory None ws is all low = subst (λ qs. All (Awaits ws) qs) (sym is.0.same) all
   asked-await gs next asked later old new by question _ _ ws is all low = absurd is
 
-  pub ask-takes : {old new : Seen F} {by : By} {question : Question} {told : Reply} {hand : Option (ReadParts F)} → Adds old new (plain_note by (act.Ask (asked_number told) question true) told) → IsAskedOf old new by question true told hand → TakesLine old new (Some by) (cmd.Ask question true)
-  ask-takes {old} {new} {by} {question} {told} {hand} adds is =
+  pub ask-takes : {old new : Seen F} {by : By} {question : Question} {told : Reply} (hand : Option (ReadParts F)) → Adds old new (plain_note by (act.Ask (asked_number told) question true) told) → IsAskedOf old new by question true told hand → TakesLine old new (Some by) (cmd.Ask question true)
+  ask-takes {old} {new} {by} {question} {told} hand adds is =
       takes (grows-one adds) refl
       (λ r at. (asked_number told, record { same_by = refl; same_act = refl }))
       (λ r at. asked-await (groups (plain_of old)) (plain_of old).next (plain_of old).asked (plain_of new).asked old.questions new.questions by question told hand r.worked is at.questions

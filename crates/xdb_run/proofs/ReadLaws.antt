@@ -1,6 +1,6 @@
 -- What the line of a question adds that is answered at once.
-use Rattle.std.proofs.Common.{◌≡◌, ℕ, ◌+◌, ◌≤◌, Bool, true, false, not, cond, eqb, List, [], ◌∷◌, ◌++◌, append-nil, Option, Some, None, refl, sym, ap, ◌∙◌, subst, arith}
-use Rattle.std.proofs.lemmas.Bool.{eq-eqb}
+use Rattle.std.proofs.Common.{◌≡◌, ℕ, ◌+◌, ◌≤◌, Bool, true, false, not, cond, eqb, List, [], ◌∷◌, ◌++◌, append-nil, Option, Some, None, refl, ap, ◌∙◌, subst, arith}
+use Rattle.std.proofs.lemmas.Bool.{eq-eqb, false≢true}
 use Rattle.std.proofs.lemmas.List.Elements.{filter-append}
 use Rattle.xdb_lists.specs.Keyed.{without as others, replaced as placed}
 use Rattle.xdb_lists.proofs.PlaceLaws.{under-none, under-pushed, under-placed, others-none}
@@ -24,17 +24,23 @@ use Rattle.xdb_plain.specs.declared.script.Cmd.TheVariants as cmd
 use Rattle.xdb_read.specs.declared.parts.ReadParts.{ReadParts}
 use Rattle.xdb_run.specs.Running.{Grows, TakesLine, KnowsQuestions}
 use Rattle.xdb_run.specs.Working.{Keeps, Lacks, EndsWork}
+use Rattle.xdb_run.specs.declared.works.WorkEnd.{WorkEnd}
 use Rattle.xdb_run.specs.declared.works.WorkEnd.TheVariants.{NoSuch, Kept, Failed}
 use Rattle.xdb_run.proofs.StateLaws.{grows-none, grows-one, grows-more, takes-alike}
 
 -- the others are the same where one is put in the place of its number
 others-placed : {X : Type 0} (key : X → ℕ) (n : ℕ) (r : X) (xs : List X) → key r ≡ n → others key n (placed key r n xs) ≡ others key n xs
 others-placed key n r [] is = refl
-others-placed key n r (x ∷ xs) is = by (eqb (key x) n) refl
+others-placed key n r (x ∷ xs) is = by (eqb (key x) n) refl (others-placed key n r xs is)
   where
-    by : (t : Bool) → eqb (key x) n ≡ t → cond (not (eqb (key (cond t r x)) n)) (cond t r x ∷ others key n (placed key r n xs)) (others key n (placed key r n xs)) ≡ cond (not t) (x ∷ others key n xs) (others key n xs)
-    by true e = ap (λ t. cond (not t) (r ∷ others key n (placed key r n xs)) (others key n (placed key r n xs))) (eq-eqb (key r) n is) ∙ others-placed key n r xs is
-    by false e = ap (λ t. cond (not t) (x ∷ others key n (placed key r n xs)) (others key n (placed key r n xs))) e ∙ ap (λ ys. x ∷ ys) (others-placed key n r xs is)
+    by : (t : Bool) → eqb (key x) n ≡ t → others key n (placed key r n xs) ≡ others key n xs → cond (not (eqb (key (cond t r x)) n)) (cond t r x ∷ others key n (placed key r n xs)) (others key n (placed key r n xs)) ≡ cond (not t) (x ∷ others key n xs) (others key n xs)
+    by true e rest = ap (λ t. cond (not t) (r ∷ others key n (placed key r n xs)) (others key n (placed key r n xs))) (eq-eqb (key r) n is) ∙ rest
+    by false e rest = ap (λ t. cond (not t) (x ∷ others key n (placed key r n xs)) (others key n (placed key r n xs))) e ∙ ap (λ ys. x ∷ ys) rest
+
+-- a reply that isn't `Asked`
+off-asked : (told : Reply) → ((n : ℕ) → told ≡ reply.Asked n → ⊥) → is_asked told ≡ false
+off-asked (reply.Asked n) off = absurd (off n refl)
+off-asked _ off = refl
 
 module _ {F : Type 0} where
   -- The question of a read is open under this number, and without it the questions are those before.
@@ -61,23 +67,23 @@ module _ {F : Type 0} where
             ∙ ap (λ t. without ask old.questions ++ cond (not t) (q ∷ []) []) (eq-eqb ask ask refl) ∙ append-nil (without ask old.questions) ∙ same;
       }
 
-  pub opens-read : {old one : Seen F} {by : By} {question : Question} {told : Reply} {hand : Option (ReadParts F)} {ask : ℕ} → told ≡ reply.Asked ask → KnowsQuestions old → Adds old one (plain_note by (act.Ask (asked_number told) question false) told) → IsAskedOf old one by question false told hand → OpensRead old one by question ask
-  opens-read {old} {one} {by} {question} {told} {hand} {ask} is knows adds asked =
+  pub opens-read : {old one : Seen F} {by : By} {question : Question} {told : Reply} {ask : ℕ} (hand : Option (ReadParts F)) → told ≡ reply.Asked ask → KnowsQuestions old → Adds old one (plain_note by (act.Ask (asked_number told) question false) told) → IsAskedOf old one by question false told hand → OpensRead old one by question ask
+  opens-read {old} {one} {by} {question} {told} {ask} hand is knows adds asked =
       asked-opens old one by question ask hand knows (subst (λ t. Adds old one (plain_note by (act.Ask (asked_number t) question false) t)) is adds) (subst (λ t. IsAskedOf old one by question false t hand) is asked)
 
   -- The question isn't opened.
-  not-asked : (gs : List Group) (next asked later : ℕ) (old new : List (Asking F)) (by : By) (question : Question) (told : Reply) (hand : Option (ReadParts F)) → IsAsked gs next asked old new later by question false told hand → is_asked told ≡ false → new ≡ old
-  not-asked gs next asked later old new by question reply.NoSuch None is off = is.0.same
-  not-asked gs next asked later old new by question reply.TooMany None is off = is.0.same
-  not-asked gs next asked later old new by question reply.Memory None is off = is.0.same
-  not-asked gs next asked later old new by question (reply.Asked ask) hand is off = absurd (cc)
-  not-asked gs next asked later old new by question _ _ is off = absurd is
+  off-questions : (gs : List Group) (next asked later : ℕ) (old new : List (Asking F)) (by : By) (question : Question) (told : Reply) (hand : Option (ReadParts F)) → IsAsked gs next asked old new later by question false told hand → ((n : ℕ) → told ≡ reply.Asked n → ⊥) → new ≡ old
+  off-questions gs next asked later old new by question reply.NoSuch None is off = is.0.same
+  off-questions gs next asked later old new by question reply.TooMany None is off = is.0.same
+  off-questions gs next asked later old new by question reply.Memory None is off = is.0.same
+  off-questions gs next asked later old new by question (reply.Asked ask) hand is off = absurd (off ask refl)
+  off-questions gs next asked later old new by question _ _ is off = absurd is
 
-  pub refused-takes : {old new : Seen F} {by : By} {question : Question} {told : Reply} {hand : Option (ReadParts F)} → is_asked told ≡ false → Adds old new (plain_note by (act.Ask (asked_number told) question false) told) → IsAskedOf old new by question false told hand → TakesLine old new (Some by) (cmd.Ask question false)
-  refused-takes {old} {new} {by} {question} {told} {hand} off adds is =
+  pub refused-takes : {old new : Seen F} {by : By} {question : Question} {told : Reply} (hand : Option (ReadParts F)) → ((n : ℕ) → told ≡ reply.Asked n → ⊥) → Adds old new (plain_note by (act.Ask (asked_number told) question false) told) → IsAskedOf old new by question false told hand → TakesLine old new (Some by) (cmd.Ask question false)
+  refused-takes {old} {new} {by} {question} {told} hand off adds is =
       takes-alike (grows-one adds) refl
-      (λ r at. (asked_number told, record { same_by = refl; same_act = refl }, off))
-      (not-asked (groups (plain_of old)) (plain_of old).next (plain_of old).asked (plain_of new).asked old.questions new.questions by question told hand is off)
+      (λ r at. (asked_number told, record { same_by = refl; same_act = refl }, off-asked told off))
+      (off-questions (groups (plain_of old)) (plain_of old).next (plain_of old).asked (plain_of new).asked old.questions new.questions by question told hand is off)
 
   -- The second note of a read ends its question.
   ends-read : {old one two new : Seen F} {by : By} {question : Question} {ask : ℕ} {note : Note} → OpensRead old one by question ask → Grows one two [] → Adds two new note → note.by ≡ by → note.act ≡ act.Ask ask question false → is_asked note.reply ≡ false → new.questions ≡ old.questions → TakesLine old new (Some by) (cmd.Ask question false)
@@ -98,20 +104,12 @@ module _ {F : Type 0} where
       (ap is_asked (says ∙ ap settle_reply there))
       (left ∙ ap (λ o. settle_leaves ask o two.questions) there ∙ ap (λ e. without ask e.questions) k.keeps ∙ others-placed (λ (x : Asking F). x.ask) ask r one.questions refl ∙ opens.apart)
 
-  -- An allocation failed.
-  pub failed-takes : {old one new : Seen F} {by : By} {question : Question} {ask : ℕ} → OpensRead old one by question ask → EndsWork (found ask one.questions) Failed one new → TakesLine old new (Some by) (cmd.Ask question false)
-  failed-takes {old} {one} {new} {by} {question} {ask} opens ends =
+  -- No result is kept: an allocation failed.
+  pub unanswered-takes : {old one new : Seen F} {by : By} {question : Question} {ask : ℕ} → OpensRead old one by question ask → (end : WorkEnd) → EndsWork (found ask one.questions) end one new → (end ≡ Kept → ⊥) → TakesLine old new (Some by) (cmd.Ask question false)
+  unanswered-takes {old} {one} {new} {by} {question} {ask} opens Failed ends off =
       let l : Lacks (asking ask by false opens.given fresh_story None) one new = subst (λ o. EndsWork o Failed one new) opens.there ends in
       ends-read opens (grows-none refl refl refl) l.note refl (ap (λ x. act.Ask ask x false) opens.same_question) refl (l.leaves ∙ opens.apart)
-
-  -- There is work to do.
-  pub never-none : {old one new : Seen F} {by : By} {question : Question} {ask : ℕ} → OpensRead old one by question ask → EndsWork (found ask one.questions) NoSuch one new → ⊥
-  never-none {one = one} {new = new} opens ends = let e = subst (λ o. EndsWork o NoSuch one new) opens.there ends in absurd (cc)
-
-  -- There is still room where a result was kept.
-  pub keeps-room : {old one two : Seen F} {by : By} {question : Question} {ask : ℕ} → OpensRead old one by question ask → EndsWork (found ask one.questions) Kept one two → 2 ≤ old.spare → 1 ≤ two.spare
-  keeps-room {old} {one} {two} {by} {question} {ask} opens ends room =
-      let k : Keeps (asking ask by false opens.given fresh_story None) one two = subst (λ o. EndsWork o Kept one two) opens.there ends in
-      let same : two.spare ≡ one.spare = ap (λ e. e.spare) k.keeps in
-      let less : one.spare + 1 ≡ old.spare = opens.note.spare in
-      omega arith
+  unanswered-takes {old} {one} {new} {by} {question} {ask} opens NoSuch ends off =
+      let e : EndsWork (Some (asking ask by false opens.given fresh_story None)) NoSuch one new = subst (λ o. EndsWork o NoSuch one new) opens.there ends in
+      absurd (false≢true e.0)
+  unanswered-takes opens Kept ends off = absurd (off refl)

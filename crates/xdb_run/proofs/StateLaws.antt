@@ -1,11 +1,11 @@
 -- The state that a run and an engine have come to, and how a block takes both on.
-use Rattle.std.proofs.Common.{◌≡◌, ℕ, ◌≤◌, List, [], ◌∷◌, ◌++◌, append-nil, append_assoc, get_or, Option, refl, sym, ap, ◌∙◌, subst, arith}
+use Rattle.std.proofs.Common.{◌≡◌, ◌≤◌, List, [], ◌∷◌, ◌++◌, append-nil, append_assoc, get_or, Option, refl, sym, ap, ◌∙◌, subst, arith}
 use Rattle.std.specs.List.{All}
 use Rattle.xdb_engine.specs.Seen.{Seen, plain_of, Adds}
 use Rattle.xdb_plain.specs.Changes.{after, asked_after}
 use Rattle.xdb_plain.specs.Legal.{after_all}
 use Rattle.xdb_plain.specs.Outcomes.{Outcome, begins, outcome}
-use Rattle.xdb_plain.specs.Runs.{Run, worked_by, run_after, IsBlock}
+use Rattle.xdb_plain.specs.Runs.{Run, worked_by, IsBlock}
 use Rattle.xdb_plain.specs.State.{Plain, opening}
 use Rattle.xdb_plain.specs.declared.act.Act.{Act}
 use Rattle.xdb_plain.specs.declared.act.Act.TheVariants as act
@@ -73,15 +73,3 @@ module _ {F : Type 0} where
   -- a line behind which the questions are as before
   pub takes-alike : {old new : Seen F} {by : Option By} {c : Cmd} {block : List Note} → Grows old new block → worked_by c block ≡ [] → ((r : Run) → IsAt r old → IsBlock r by c block) → new.questions ≡ old.questions → TakesLine old new by c
   takes-alike grows none is_block same = takes grows none is_block (λ r at. subst (λ qs. All (Awaits r.worked) qs) (sym same) at.questions)
-
-  -- room that is made before a line changes nothing
-  pub takes-roomy : {old roomy new : Seen F} {by : Option By} {c : Cmd} → roomy ≡ record old { spare = roomy.spare } → TakesLine roomy new by c → TakesLine old new by c
-  takes-roomy {old} {roomy} {new} {by} {c} same line =
-      let t : TakesLine (record old { spare = roomy.spare }) new by c = subst (λ e. TakesLine e new by c) same line in
-      let here = λ (r : Run) (at : IsAt r old). record { plain = at.plain; questions = at.questions; given = at.given } in
-      record {
-        block = t.block;
-        grows = record { notes = t.grows.notes; first_seq = t.grows.first_seq; first_file = t.grows.first_file };
-        is_block = λ r at. t.is_block r (here r at);
-        goes_on = λ r at. t.goes_on r (here r at);
-      }

@@ -6,8 +6,8 @@ use Rattle.std.proofs.lemmas.List.Elements.{All-filter, All-push}
 use Rattle.std.proofs.lemmas.List.Folds.{list_any-append}
 use Rattle.xdb_lists.proofs.PlaceLaws.{under-number, under-all, all-placed}
 use Rattle.xdb_engine.specs.Notes.{plain_note}
-use Rattle.xdb_engine.specs.Questions.{Asking, found, replaced, looked, failure_act, failure_by}
-use Rattle.xdb_engine.specs.Seen.{Seen, plain_of, Adds, with_questions}
+use Rattle.xdb_engine.specs.Questions.{Asking, found, looked}
+use Rattle.xdb_engine.specs.Seen.{Seen, plain_of, Adds}
 use Rattle.xdb_engine.specs.Stands.{IsNumbered}
 use Rattle.xdb_plain.specs.Counts.{is_among}
 use Rattle.xdb_plain.specs.Runs.{is_no_such}
@@ -19,6 +19,7 @@ use Rattle.xdb_plain.specs.declared.script.Cmd.TheVariants as cmd
 use Rattle.xdb_read.specs.declared.parts.ReadDone.{ReadDone}
 use Rattle.xdb_run.specs.Running.{Awaits, TakesLine, KnowsQuestions}
 use Rattle.xdb_run.specs.Working.{EndsWork}
+use Rattle.xdb_run.specs.declared.works.WorkEnd.{WorkEnd}
 use Rattle.xdb_run.specs.declared.works.WorkEnd.TheVariants.{NoSuch, Kept, Failed}
 use Rattle.xdb_run.proofs.StateLaws.{grows-one, takes, takes-alike}
 use Rattle.xdb_run.proofs.QuestionLaws.{waits_for_work, awaits, waits-by}
@@ -43,7 +44,7 @@ among-others ws ask n other = among-pushed n ask ws ∙ ap (λ t. is_among n ws 
 
 module _ {F : Type 0} where
   -- The result is kept, and the line has no note.
-  pub work-keeps : {old new : Seen F} (ask : ℕ) (o : Option (Asking F)) → KnowsQuestions old → found ask old.questions ≡ o → EndsWork o Kept old new → TakesLine old new (Some Db) (cmd.Work ask)
+  work-keeps : {old new : Seen F} (ask : ℕ) (o : Option (Asking F)) → KnowsQuestions old → found ask old.questions ≡ o → EndsWork o Kept old new → TakesLine old new (Some Db) (cmd.Work ask)
   work-keeps ask None knows there k = absurd k
   work-keeps {old} {new} ask (Some q) knows there k =
       let r : Asking F = looked q q.story (Some k.done) in
@@ -65,7 +66,7 @@ module _ {F : Type 0} where
       })
 
   -- An allocation failed.
-  pub work-lacks : {old new : Seen F} (ask : ℕ) (o : Option (Asking F)) → KnowsQuestions old → found ask old.questions ≡ o → EndsWork o Failed old new → TakesLine old new (Some Db) (cmd.Work ask)
+  work-lacks : {old new : Seen F} (ask : ℕ) (o : Option (Asking F)) → KnowsQuestions old → found ask old.questions ≡ o → EndsWork o Failed old new → TakesLine old new (Some Db) (cmd.Work ask)
   work-lacks ask None knows there l = absurd l
   work-lacks {old} {new} ask (Some q) knows there l =
       let same : q.ask ≡ ask = under-number (λ (x : Asking F). x.ask) ask q old.questions there in
@@ -79,6 +80,12 @@ module _ {F : Type 0} where
         sym (ap not (waits-by r old ask (Some q) at knows there ∙ ap (λ (x : Option ReadDone). not (is_some x)) l.waits)),
       ))
       (λ r at. subst (λ qs. All (Awaits r.worked) qs) (sym l.leaves) (All-filter (λ x. not (eqb x.ask q.ask)) (Awaits r.worked) old.questions at.questions))
+
+  -- There was work to do.
+  pub work-ends : {old new : Seen F} (ask : ℕ) (end : WorkEnd) → KnowsQuestions old → EndsWork (found ask old.questions) end old new → (end ≡ NoSuch → ⊥) → TakesLine old new (Some Db) (cmd.Work ask)
+  work-ends ask NoSuch knows ends off = absurd (off refl)
+  work-ends {old} ask Kept knows ends off = work-keeps ask (found ask old.questions) knows refl ends
+  work-ends {old} ask Failed knows ends off = work-lacks ask (found ask old.questions) knows refl ends
 
   -- There is no such work to do.
   none-ends : (o : Option (Asking F)) (old new : Seen F) → EndsWork o NoSuch old new → (new ≡ old) × (waits_for_work o ≡ false)
