@@ -3,9 +3,9 @@ use Rattle.std.proofs.Common.{◌≡◌, ℕ, Bool, true, false, not, ◌||◌, 
 use Rattle.std.proofs.lemmas.Bool.{and_from, and_parts, cases_Bool, false≢true}
 use Rattle.std.proofs.lemmas.List.{map-append}
 use Rattle.std.proofs.lemmas.Simd.{map-map}
-use Rattle.xdb_key.proofs.OrderLaws.{upto-not_below, upto_trans, lesser_upto_first, lesser_upto_second, first_upto_greater, second_upto_greater}
+use Rattle.xdb_key.proofs.OrderLaws.{upto-not_below, upto_trans, below_upto, upto_below, lesser_upto_first, lesser_upto_second, first_upto_greater, second_upto_greater}
 use Rattle.xdb_key.specs.Bounds.{Bounds, bounds, holds, covers, lesser, greater}
-use Rattle.xdb_key.specs.Entries.{Point, Tombstone, Reach}
+use Rattle.xdb_key.specs.Entries.{Point, Tombstone, Reach, IsReach}
 use Rattle.xdb_key.specs.Order.{is_below, is_upto}
 use Rattle.xdb_key.specs.Reading.{◌>>=◌}
 use Rattle.xdb_rangedel.proofs.MemberLaws.{Has-map, Has-from_map, none-held}
@@ -21,7 +21,7 @@ use Rattle.xdb_table_r.specs.Contents.{content_in}
 use Rattle.xdb_table_r.specs.Points.{points_at}
 use Rattle.xdb_table_r.specs.Reaches.{reaches, IsExtentOf, LiesWithin, IsEmpty, Reaches, part_at, range_before, range_from}
 use Rattle.xdb_table_r.specs.Views.{Shown, keys_of, points_in, span_for, spans_in, seen_at}
-use Rattle.xdb_halves.specs.Beside.{left_of, right_of, has_keys, item_reach, IsExtent, AreHalves, AreHalvesOf, rows_beside}
+use Rattle.xdb_halves.specs.Beside.{left_of, right_of, has_keys, item_reach, IsExtent, HasNone, AreHalves, AreHalvesOf, rows_beside}
 use Rattle.xdb_halves.specs.declared.sides.Halves.{Halves}
 
 -- ---- a span that covers what is shown leaves no keys
@@ -53,6 +53,18 @@ right_apart shown out e h =
     let parts = and_parts _ _ h in
     (and_from _ _ (upto_trans shown.lo (greater shown.lo out.hi) e.lo (first_upto_greater shown.lo out.hi) parts.0) parts.1,
       upto_trans out.hi (greater shown.lo out.hi) e.lo (second_upto_greater shown.lo out.hi) parts.0)
+
+-- no extent lies within a side without keys
+none_within : (r : Bounds) (e : Option Reach) → IsEmpty r → IfSome e (LiesWithin r) → IfSome e IsReach → e ≡ None
+none_within r None empty within is = refl
+none_within r (Some e) empty within is =
+    let parts = and_parts _ _ within in
+    absurd (false≢true (sym empty ∙ below_upto r.lo e.hi r.hi (upto_below r.lo e.lo e.hi parts.0 is.ordered) parts.1))
+
+pub none_covered : (shown out : Bounds) (h : Halves) (lo hi : List ℕ) → lo ≡ out.lo → hi ≡ out.hi → covers out shown ≡ true
+    → IfSome h.left (LiesWithin (range_before shown lo)) → IfSome h.left IsReach → IfSome h.right (LiesWithin (range_from shown hi)) → IfSome h.right IsReach → HasNone h
+none_covered shown out h lo hi is_lo is_hi covered left l right r =
+    (none_within (range_before shown lo) h.left (left_empty shown out lo is_lo covered) left l, none_within (range_from shown hi) h.right (right_empty shown out hi is_hi covered) right r)
 
 -- ---- where nothing is
 

@@ -1,6 +1,6 @@
 use Rattle.std.proofs.Common.{◌∙◌}
 use Rattle.xdb_table_r.specs.Views.{keys_of}
-use Rattle.xdb_halves.proofs.SideLaws.{left_empty, right_empty, halves_told}
+use Rattle.xdb_halves.proofs.SideLaws.{left_empty, right_empty, none_covered, halves_told}
 use Rattle.xdb_halves.proofs.cut.halves.Goals as goal
 
 pub returns-in_err-left-clause-alone : goal.returns-in_err-left-clause-alone
@@ -20,3 +20,8 @@ pub returns-clause-tells : goal.returns-clause-tells
 returns-clause-tells g c =
     halves_told c.args.view.now c.args.span.now _ (record { left = c.in_ok-left.left; right = c.in_ok-right.right }) c.lo.result.now c.hi.result.now c.lo.ensures.lo c.hi.ensures
     c.in_ok-left.ensures.tells c.in_ok-right.ensures.tells
+
+pub returns-clause-nothing : goal.returns-clause-nothing
+returns-clause-nothing g c = λ h.
+    none_covered (keys_of c.args.view.now) c.args.span.now (record { left = c.in_ok-left.left; right = c.in_ok-right.right }) c.lo.result.now c.hi.result.now c.lo.ensures.lo c.hi.ensures h
+    c.in_ok-left.ensures.within c.begins_below_its_end.ensures c.in_ok-right.ensures.within c.begins_below_its_end-2.ensures
