@@ -44,15 +44,17 @@ right_empty shown out at e h =
 
 pub left_apart : (shown out : Bounds) (e : Reach) → LiesWithin (left_of shown out) e → IsTrue (covers shown (bounds e.lo e.hi)) × IsTrue (is_upto e.hi out.lo)
 left_apart shown out e h =
-    let parts = and_parts _ _ h in
-    (and_from _ _ parts.0 (upto_trans e.hi (lesser shown.hi out.lo) shown.hi parts.1 (lesser_upto_first shown.hi out.lo)),
-      upto_trans e.hi (lesser shown.hi out.lo) out.lo parts.1 (lesser_upto_second shown.hi out.lo))
+    let parts = and_parts _ _ h in (
+      and_from _ _ parts.0 (upto_trans e.hi (lesser shown.hi out.lo) shown.hi parts.1 (lesser_upto_first shown.hi out.lo)),
+      upto_trans e.hi (lesser shown.hi out.lo) out.lo parts.1 (lesser_upto_second shown.hi out.lo),
+    )
 
 pub right_apart : (shown out : Bounds) (e : Reach) → LiesWithin (right_of shown out) e → IsTrue (covers shown (bounds e.lo e.hi)) × IsTrue (is_upto out.hi e.lo)
 right_apart shown out e h =
-    let parts = and_parts _ _ h in
-    (and_from _ _ (upto_trans shown.lo (greater shown.lo out.hi) e.lo (first_upto_greater shown.lo out.hi) parts.0) parts.1,
-      upto_trans out.hi (greater shown.lo out.hi) e.lo (second_upto_greater shown.lo out.hi) parts.0)
+    let parts = and_parts _ _ h in (
+      and_from _ _ (upto_trans shown.lo (greater shown.lo out.hi) e.lo (first_upto_greater shown.lo out.hi) parts.0) parts.1,
+      upto_trans out.hi (greater shown.lo out.hi) e.lo (second_upto_greater shown.lo out.hi) parts.0,
+    )
 
 -- no extent lies within a side without keys
 none_within : (r : Bounds) (e : Option Reach) → IsEmpty r → IfSome e (LiesWithin r) → IfSome e IsReach → e ≡ None
@@ -69,9 +71,10 @@ none_covered shown out h lo hi is_lo is_hi covered left l right r =
 -- ---- where nothing is
 
 pub none_there : (c : List Item) (r : Bounds) (s : ℕ) → HasOrderedSpans c → IsExtent (view c r s) None ↔ ((k : List ℕ) → IsTrue (holds r k) → IsSilentAt k c)
-none_there c r s o =
-    (λ h. (empty-view c r s o).0 (none-held (view c r s) (λ i has. h (item_reach i) (Has-map item_reach (view c r s) i has))),
-      λ silent x has. subst (λ v. Has (map item_reach v) x) ((empty-view c r s o).1 silent) has)
+none_there c r s o = (
+  λ h. (empty-view c r s o).0 (none-held (view c r s) (λ i has. h (item_reach i) (Has-map item_reach (view c r s) i has))),
+  λ silent x has. subst (λ v. Has (map item_reach v) x) ((empty-view c r s o).1 silent) has,
+)
 
 -- ---- the extent of a side
 
@@ -129,7 +132,7 @@ told v out (Some b) h left right =
     let r = right_of (keys_of v) out in
     weaker (λ rows. Side l s ts h.left rows × Side r s ts h.right rows) (AreHalvesOf v out h) (rows_beside v out b) (λ rows x. record { left = x.0; right = x.1 })
     (both (has_keys l) (has_keys r) (points_at index b) (Side l s ts h.left) (Side r s ts h.right)
-      (side_read l s index ts b h.left left) (side_none l s index ts b h.left left) (side_read r s index ts b h.right right) (side_none r s index ts b h.right right))
+    (side_read l s index ts b h.left left) (side_none l s index ts b h.left left) (side_read r s index ts b h.right right) (side_none r s index ts b h.right right))
 
 pub halves_told : {F : Type 0} (v : Shown F) (out : Bounds) (known : Option (List ℕ)) (h : Halves) (lo hi : List ℕ) → lo ≡ out.lo → hi ≡ out.hi
     → Tells v (range_before (keys_of v) lo) known h.left → Tells v (range_from (keys_of v) hi) known h.right
