@@ -18,6 +18,10 @@ pub record IsLevels (n : ℕ) (levels : LevelLists) : Type 0 where
 abbrev pub numbers : List Table → List ℕ
 numbers ts = map (λ t. t.num) ts
 
--- the tables of a level whose bounds meet the range, by number, in the order of the level
+-- the tables of a level whose bounds meet the range, in the order of the level
+abbrev pub met : LevelLists → ℕ → Bounds → List Table
+met levels level range = meeting range (tables_of levels level)
+
+-- the same by number
 abbrev pub overlapping : LevelLists → ℕ → Bounds → List ℕ
-overlapping levels level range = numbers (meeting range (tables_of levels level))
+overlapping levels level range = numbers (met levels level range)

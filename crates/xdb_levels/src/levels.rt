@@ -1,6 +1,7 @@
 ghost use Rattle.std.specs.Prelude.{◌≡◌, ◌≤◌, ◌<◌, ◌⊎◌, [], Some, replicate, IsTrue, IfOk, IfErr, OnOk};
+ghost use Rattle.xdb_edit.specs.Plans.{meeting};
 ghost use Rattle.xdb_edit.specs.Versions.{edited, applies, tables_of};
-ghost use Rattle.xdb_levels.specs.Levels.{IsLevels, overlapping};
+ghost use Rattle.xdb_levels.specs.Levels.{IsLevels, met, overlapping};
 ghost use Rattle.xdb_levels.specs.Applying.{names_below, refusal};
 ghost use Rattle.xdb_levels.specs.declared.error.ApplyNo.TheVariants.{Memory};
 
@@ -51,6 +52,20 @@ impl<const N: usize> Levels<N> {
         }
     }
 
+    /// The allocator that the tables are kept by.
+    pub fn allocator(&self) -> Global {
+        self.levels[0].allocator()
+    }
+
+    /// How many levels there are.
+    pub fn count(&self) -> usize
+        ensures count { result ≡ N }
+        ensures levels { IsLevels N self.now }
+    {
+        let levels = &self.levels;
+        levels.len()
+    }
+
     /// The tables of a level, in its order.
     pub fn tables(&self, level: usize) -> &[TableMeta]
         requires { level < N }
@@ -58,6 +73,22 @@ impl<const N: usize> Levels<N> {
         ensures levels { IsLevels N self.now }
     {
         self.levels[level].list()
+    }
+
+    /// The tables of a level among which all those are whose bounds meet the range: above L0 just these, found
+    /// by two binary searches; in L0, where tables may overlap, all of its tables. Takes no memory.
+    pub fn candidates(&self, level: usize, range: &KeyRange) -> &[TableMeta]
+        requires { level < N }
+        ensures meeting { meeting range.now result.now ≡ met self.now level range.now }
+        ensures above_l0 { 1 ≤ level → result.now ≡ met self.now level range.now }
+        ensures levels { IsLevels N self.now }
+    {
+        let tables = self.levels[level].list();
+        if level == 0 {
+            tables
+        } else {
+            only_meeting(tables, range)
+        }
     }
 
     /// The numbers of the tables of a level whose bounds meet the range, in the order of the level. Above
@@ -70,12 +101,7 @@ impl<const N: usize> Levels<N> {
         requires { level < N }
         ensures { IfOk result (λ found. found.items ≡ overlapping self.now level range.now) }
     {
-        let tables = self.levels[level].list();
-        if level == 0 {
-            numbers_meeting(self.alloc, tables, range)
-        } else {
-            numbers_meeting(self.alloc, only_meeting(tables, range), range)
-        }
+        numbers_meeting(self.allocator(), self.candidates(level, range), range)
     }
 
     /// The levels after the edit: what it removes goes, what it adds comes, each table at its place. The

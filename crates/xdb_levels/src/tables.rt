@@ -38,6 +38,10 @@ impl Tables {
         }
     }
 
+    pub fn allocator(&self) -> Global {
+        *self.tables.allocator()
+    }
+
     pub fn list(&self) -> &[TableMeta]
         ensures { result.now ≡ self.now }
     {

@@ -187,6 +187,7 @@ fn one_level_and_sixteen(rt: HostRuntime) -> Result<(), Fail> {
     assert!(rt; are_numbered(one.tables(0), &[MOST]));
     let many: Levels<16> = with(alloc, &[(15, 1, "a", "c", 0)])?;
     assert!(rt; are_numbered(many.tables(15), &[1]));
+    assert!(rt; one.count() == 1 && many.count() == 16);
     Ok(())
 }
 
@@ -256,7 +257,19 @@ fn meet(
 {
     let range = range(alloc, lo, hi)?;
     let found = levels.overlapping(usize::from(level), &range)?;
-    Ok(found.as_slice() == nums)
+    Ok(found.as_slice() == nums && are_candidates(levels, level, &range, nums))
+}
+
+/// Whether the tables of the numbers are the candidates: in L0 these are all.
+fn are_candidates(levels: &Version, level: u8, range: &KeyRange, nums: &[u64]) -> bool
+    requires { level < 7 }
+{
+    let candidates = levels.candidates(usize::from(level), range);
+    if level == 0 {
+        are_numbered(candidates, &[1, 2, 3])
+    } else {
+        are_numbered(candidates, nums)
+    }
 }
 
 fn three(alloc: Global, level: u8) -> Result<Version, Fail> {

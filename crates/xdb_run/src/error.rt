@@ -7,7 +7,7 @@ use thiserror::Error;
 /// Why a script wasn't run to its end.
 #[derive(Clone, Copy, Debug, PartialEq, Eq, Error)]
 pub enum RunNo {
-    /// Memory was wanting outside a step: for the notes of a line, or for what a line needs before it.
+    /// An allocation failed outside a step: for the notes of a line, or for what a line needs before it.
     #[error("out of memory")]
     Memory,
 }

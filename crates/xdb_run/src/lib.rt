@@ -2,10 +2,12 @@
 #![tactic(auto)]
 
 mod built;
+mod commits;
 mod error;
 mod lines;
 mod reads;
 mod run;
+mod works;
 
 pub use built::first_unbuilt;
 pub use error::RunNo;

@@ -7,7 +7,7 @@ ghost use Rattle.xdb_plain.specs.Legal.{IsRight};
 ghost use Rattle.xdb_plain.specs.Runs.{IsRunOf};
 ghost use Rattle.xdb_run.specs.Built.{first_unbuilt, is_run};
 ghost use Rattle.xdb_run.specs.Outside.{RoseBy};
-ghost use Rattle.xdb_run.specs.Running.{HasTaken};
+ghost use Rattle.xdb_run.specs.Running.{HasTakenLines};
 
 use crate::{RunNo, lines};
 use std::alloc::{AllocError, Global};
@@ -73,8 +73,8 @@ fn take_all<F: FileRef, L: Ledger>(
     script: Vec<Line>,
 ) -> Result<(), AllocError>
     requires run { IsTrue (list_all is_run script.items) }
-    requires fresh { HasTaken [] engine.old }
-    ensures { OnOk result (HasTaken script.items engine.new) }
+    requires fresh { HasTakenLines [] engine.old }
+    ensures { OnOk result (HasTakenLines script.items engine.new) }
 {
     let mut left = script;
     left.reverse();

@@ -14,3 +14,6 @@ pub use std::alloc::AllocError as Memory;
 
 /// The most snapshots that are open.
 pub const MOST_SNAPS: usize = 64;
+
+#[cfg(test)]
+mod tests;

@@ -5,7 +5,7 @@ use Rattle.xdb_plain.specs.Failures.{faults}
 use Rattle.xdb_run.specs.Built.{is_run}
 use Rattle.xdb_run.proofs.BuiltLaws.{lines-run}
 use Rattle.xdb_run.proofs.OutsideLaws.{none-booked, rose-none}
-use Rattle.xdb_run.proofs.StateLaws.{run-whole}
+use Rattle.xdb_run.proofs.LineLaws.{run-whole}
 use Rattle.xdb_run.proofs.run.run_script_named.Goals as goal
 
 pub take_all-requires-clause-run : goal.take_all-requires-clause-run

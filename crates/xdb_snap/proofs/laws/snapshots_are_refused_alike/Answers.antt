@@ -1,5 +1,4 @@
 -- By the laws of both lists.
-use Rattle.std.proofs.Common.{refl}
 use Rattle.xdb_snap.proofs.BareLaws.{refused-alike}
 use Rattle.xdb_snap.proofs.laws.snapshots_are_refused_alike.Goals as goal
 

@@ -1,0 +1,6 @@
+pub mod RangeLaws
+pub mod SweepLaws
+pub mod GrowthLaws
+pub mod OrderingLaws
+pub mod ShutLaws
+pub mod WalkLaws

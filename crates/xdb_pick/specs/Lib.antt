@@ -1,0 +1,3 @@
+-- Hulls of plans, and the tables that are tried in turn.
+pub mod Hulls
+pub mod Trying

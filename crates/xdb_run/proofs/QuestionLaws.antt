@@ -1,0 +1,106 @@
+-- What a run says of open questions, and what a settle and a question in parts add.
+use Rattle.std.proofs.Common.{◌≡◌, ℕ, ◌+◌, ◌≤◌, Bool, true, false, not, ◌&&◌, cond, eqb, List, [], ◌∷◌, get_or, Option, Some, None, is_some, refl, sym, ap, ◌∙◌, subst, arith}
+use Rattle.std.specs.List.{All}
+use Rattle.std.proofs.lemmas.Bool.{ne_eqb}
+use Rattle.std.proofs.lemmas.List.Elements.{All-filter, All-push}
+use Rattle.std.proofs.lemmas.List.Folds.{list_any_none}
+use Rattle.xdb_lists.proofs.PlaceLaws.{under-number, under-all}
+use Rattle.xdb_engine.proofs.QuestionLaws.{found-plain}
+use Rattle.xdb_engine.specs.Asks.{IsAsked, IsAskedOf}
+use Rattle.xdb_engine.specs.Notes.{plain_note}
+use Rattle.xdb_engine.specs.Questions.{Asking, asking, found, without, answer_of, answer_act, settle_act, settle_reply, settle_leaves}
+use Rattle.xdb_engine.specs.Seen.{Seen, plain_of, Adds}
+use Rattle.xdb_key.specs.Groups.{Group}
+use Rattle.xdb_order.specs.Desk.{fresh_story}
+use Rattle.xdb_plain.specs.Counts.{is_among}
+use Rattle.xdb_plain.specs.Runs.{Run, question_waits, is_not_yet, IsWaited}
+use Rattle.xdb_plain.specs.State.{groups, found_question}
+use Rattle.xdb_plain.specs.Steps.{asked_number}
+use Rattle.xdb_plain.specs.declared.act.Act.TheVariants as act
+use Rattle.xdb_plain.specs.declared.act.By.{By}
+use Rattle.xdb_plain.specs.declared.question.Question.{Question}
+use Rattle.xdb_plain.specs.declared.reply.Reply.{Reply}
+use Rattle.xdb_plain.specs.declared.reply.Reply.TheVariants as reply
+use Rattle.xdb_plain.specs.declared.script.Cmd.TheVariants as cmd
+use Rattle.xdb_read.specs.declared.parts.ReadDone.{ReadDone}
+use Rattle.xdb_read.specs.declared.parts.ReadParts.{ReadParts}
+use Rattle.xdb_run.specs.Running.{Awaits, IsAt, TakesLine, KnowsQuestions}
+use Rattle.xdb_run.proofs.StateLaws.{grows-one, takes}
+
+-- a number above all that were given isn't among those worked on
+not-among : (ask most : ℕ) (ws : List ℕ) → All (λ n. n ≤ most) ws → ask ≡ most + 1 → is_among ask ws ≡ false
+not-among ask most ws given is = list_any_none (λ n. eqb n ask) ws (λ k d less. let low : get_or ws k d ≤ most = given k d less in ne_eqb (get_or ws k d) ask (λ e. omega arith))
+
+module _ {F : Type 0} where
+  -- the work of a question is waited for where it is open and has no result
+  abbrev pub waits_for_work : Option (Asking F) → Bool
+  waits_for_work None = false
+  waits_for_work (Some q) = not (is_some q.kept)
+
+  -- what the run says of the question that is found
+  pub awaits : (r : Run) (e : Seen F) (ask : ℕ) (q : Asking F) → IsAt r e → found ask e.questions ≡ Some q → Awaits r.worked q
+  awaits r e ask q at there = under-all (λ (x : Asking F). x.ask) (Awaits r.worked) ask q e.questions at.questions there
+
+  pub waits-by : (r : Run) (e : Seen F) (ask : ℕ) (o : Option (Asking F)) → IsAt r e → KnowsQuestions e → found ask e.questions ≡ o → question_waits r ask ≡ waits_for_work o
+  waits-by r e ask None at knows there =
+      ap (λ x. is_some x && not (is_among ask r.worked)) (ap (λ p. found_question ask p.questions) at.plain ∙ found-plain ask e.questions (plain_of e).questions None knows.questions there)
+  waits-by r e ask (Some q) at knows there =
+      let is : q.ask ≡ ask = under-number (λ (x : Asking F). x.ask) ask q e.questions there in
+      ap (λ x. is_some x && not (is_among ask r.worked)) (ap (λ p. found_question ask p.questions) at.plain ∙ found-plain ask e.questions (plain_of e).questions (Some q) knows.questions there)
+      ∙ ap (λ n. not (is_among n r.worked)) (sym is) ∙ ap not (sym (awaits r e ask q at there).kept)
+
+  -- ---- a settle
+
+  -- the note of a settle, by the question's result
+  settle-kept : (by : By) (ask : ℕ) (q : Asking F) (waits : Bool) (kept : Option ReadDone) → q.kept ≡ kept → q.parted ≡ true → q.ask ≡ ask → waits ≡ waits_for_work (Some q) → IsWaited by (act.Settle ask) waits (plain_note by (settle_act ask (Some q)) (settle_reply (Some q)) ∷ [])
+  settle-kept by ask q waits None e parted is w = (
+    record { same_by = refl; same_act = ap (λ k. cond (is_some k) (answer_act q) (act.Settle ask)) e },
+    ap (λ k. is_not_yet (answer_of k)) e ∙ sym (w ∙ ap (λ (k : Option ReadDone). not (is_some k)) e),
+  )
+  settle-kept by ask q waits (Some done) e parted is w = (
+    record {
+      same_by = refl;
+      same_act = ap (λ k. cond (is_some k) (answer_act q) (act.Settle ask)) e ∙ ap (λ t. cond t (act.Settle q.ask) (act.Ask q.ask q.given.question false)) parted ∙ ap act.Settle is;
+    },
+    ap (λ k. is_not_yet (answer_of k)) e ∙ sym (w ∙ ap (λ (k : Option ReadDone). not (is_some k)) e),
+  )
+
+  settle-block : (r : Run) (e : Seen F) (by : By) (ask : ℕ) (o : Option (Asking F)) → IsAt r e → KnowsQuestions e → found ask e.questions ≡ o → IsWaited by (act.Settle ask) (question_waits r ask) (plain_note by (settle_act ask o) (settle_reply o) ∷ [])
+  settle-block r e by ask None at knows there = (record { same_by = refl; same_act = refl }, sym (waits-by r e ask None at knows there))
+  settle-block r e by ask (Some q) at knows there =
+      settle-kept by ask q (question_waits r ask) q.kept refl (awaits r e ask q at there).parted
+      (under-number (λ (x : Asking F). x.ask) ask q e.questions there) (waits-by r e ask (Some q) at knows there)
+
+  all-left : (P : Asking F → Type 0) (ask : ℕ) (o : Option (Asking F)) (qs : List (Asking F)) → All P qs → All P (settle_leaves ask o qs)
+  all-left P ask None qs all = all
+  all-left P ask (Some q) qs all = by (is_some q.kept)
+    where
+      by : (t : Bool) → All P (cond t (without ask qs) qs)
+      by true = All-filter (λ q. not (eqb q.ask ask)) P qs all
+      by false = all
+
+  pub settle-takes : {old new : Seen F} {by : By} {ask : ℕ} {told : Reply} → KnowsQuestions old → Adds old new (plain_note by (settle_act ask (found ask old.questions)) told) → told ≡ settle_reply (found ask old.questions) → new.questions ≡ settle_leaves ask (found ask old.questions) old.questions → TakesLine old new (Some by) (cmd.Settle ask)
+  settle-takes {old} {new} {by} {ask} {told} knows adds is left =
+      let o = found ask old.questions in
+      takes (grows-one adds) refl
+      (λ r at. subst (λ x. IsWaited by (act.Settle ask) (question_waits r ask) (plain_note by (settle_act ask o) x ∷ [])) (sym is) (settle-block r old by ask o at knows refl))
+      (λ r at. subst (λ qs. All (Awaits r.worked) qs) (sym left) (all-left (Awaits r.worked) ask o old.questions at.questions))
+
+  -- ---- a question in parts
+
+  -- the questions behind the ask
+  asked-await : (gs : List Group) (next asked later : ℕ) (old new : List (Asking F)) (by : By) (question : Question) (told : Reply) (hand : Option (ReadParts F)) (ws : List ℕ) → IsAsked gs next asked old new later by question true told hand → All (Awaits ws) old → All (λ n. n ≤ asked) ws → All (Awaits ws) new
+  asked-await gs next asked later old new by question (reply.Asked ask) (Some given) ws is all low =
+      subst (λ qs. All (Awaits ws) qs) (sym is.opened)
+      (All-push (Awaits ws) old (asking ask by true given fresh_story None) all (record { parted = refl; kept = sym (not-among ask asked ws low is.number) }))
+  asked-await gs next asked later old new by question reply.NoSuch None ws is all low = subst (λ qs. All (Awaits ws) qs) (sym is.0.same) all
+  asked-await gs next asked later old new by question reply.TooMany None ws is all low = subst (λ qs. All (Awaits ws) qs) (sym is.0.same) all
+  asked-await gs next asked later old new by question reply.Memory None ws is all low = subst (λ qs. All (Awaits ws) qs) (sym is.0.same) all
+  asked-await gs next asked later old new by question _ _ ws is all low = absurd is
+
+  pub ask-takes : {old new : Seen F} {by : By} {question : Question} {told : Reply} (hand : Option (ReadParts F)) → Adds old new (plain_note by (act.Ask (asked_number told) question true) told) → IsAskedOf old new by question true told hand → TakesLine old new (Some by) (cmd.Ask question true)
+  ask-takes {old} {new} {by} {question} {told} hand adds is =
+      takes (grows-one adds) refl
+      (λ r at. (asked_number told, record { same_by = refl; same_act = refl }))
+      (λ r at. asked-await (groups (plain_of old)) (plain_of old).next (plain_of old).asked (plain_of new).asked old.questions new.questions by question told hand r.worked is at.questions
+      (subst (λ p. All (λ n. n ≤ p.asked) r.worked) at.plain at.given))

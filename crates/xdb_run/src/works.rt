@@ -1,0 +1,68 @@
+//! Work that is under way: done, and its result brought or its failure told.
+ghost use Rattle.std.specs.Prelude.{◌≤◌, Some};
+ghost use Rattle.xdb_engine.specs.Questions.{found_by};
+ghost use Rattle.xdb_plain.specs.declared.act.By.TheVariants.{Db};
+ghost use Rattle.xdb_plain.specs.declared.script.Cmd.TheVariants as cmd;
+ghost use Rattle.xdb_run.specs.Running.{IsReady, TakesLine};
+ghost use Rattle.xdb_run.specs.Working.{IsWorkedOn, EndsWork};
+
+use std::alloc::{AllocError, Global};
+use std::sync::ledger::Ledger;
+use xdb_device::FileRef;
+use xdb_engine::{Engine, Given, Id, Outcome};
+use xdb_plain::Act;
+use xdb_read::{ReadDone, answer};
+
+/// How work ended.
+#[derive(Clone, Copy, Debug, PartialEq, Eq)]
+pub enum WorkEnd {
+    /// There is no such work to do.
+    NoSuch,
+    /// Its result is kept.
+    Kept,
+    /// An allocation failed, and a note tells so.
+    Failed,
+}
+
+/// The work of a question, with a note where there is none to do.
+pub fn work<F: FileRef, L: Ledger>(alloc: Global, engine: &mut Engine<F, L>, ask: u64)
+    requires ready { IsReady engine.old }
+    ensures { TakesLine engine.old engine.new (Some Db) (cmd.Work ask) }
+{
+    if let WorkEnd::NoSuch = bring(alloc, engine, Id::Ask(ask)) {
+        engine.no_such(Act::Work { ask });
+    }
+}
+
+/// Does work that is under way and has no result yet, and brings its result or tells its failure.
+pub fn bring<F: FileRef, L: Ledger>(alloc: Global, engine: &mut Engine<F, L>, id: Id) -> WorkEnd
+    requires room { 1 ≤ engine.old.spare }
+    ensures { EndsWork (found_by id engine.old.questions) result engine.old engine.new }
+{
+    match worked_on(alloc, engine, &id) {
+        Some(Ok(done)) => {
+            engine.bring(id, Outcome::Read(done));
+            WorkEnd::Kept
+        }
+        Some(Err(AllocError)) => {
+            engine.lack(id, Vec::new(alloc));
+            WorkEnd::Failed
+        }
+        None => WorkEnd::NoSuch,
+    }
+}
+
+/// What comes of work that is under way and has no result yet.
+fn worked_on<F: FileRef, L: Ledger>(
+    alloc: Global,
+    engine: &Engine<F, L>,
+    id: &Id,
+) -> Option<Result<ReadDone, AllocError>>
+    ensures { IsWorkedOn (found_by id.now engine.now.questions) result }
+{
+    if engine.is_kept(id) {
+        return None;
+    }
+    let Given::Read(parts) = engine.given(id)?;
+    Some(answer(alloc, parts))
+}
