@@ -1,5 +1,5 @@
 -- The two sides of a span: which keys they have, and the extent of what a table has there.
-use Rattle.std.proofs.Common.{◌≡◌, ℕ, Bool, true, false, not, ◌||◌, cond, List, [], ◌++◌, map, Option, None, Some, IfSome, Result, Ok, Err, IsOkAnd, IsTrue, ◌↔◌, refl, sym, ap, ◌∙◌, subst, inl, inr}
+use Rattle.std.proofs.Common.{◌≡◌, ℕ, Bool, true, false, not, ◌&&◌, ◌||◌, cond, List, [], ◌++◌, map, Option, None, Some, IfSome, Result, Ok, Err, IsOkAnd, IsTrue, ◌↔◌, refl, sym, ap, ◌∙◌, subst, inl, inr}
 use Rattle.std.proofs.lemmas.Bool.{and_from, and_parts, cases_Bool, false≢true}
 use Rattle.std.proofs.lemmas.List.{map-append}
 use Rattle.std.proofs.lemmas.Simd.{map-map}
@@ -8,13 +8,14 @@ use Rattle.xdb_key.specs.Bounds.{Bounds, bounds, holds, covers, lesser, greater}
 use Rattle.xdb_key.specs.Entries.{Point, Tombstone, Reach, IsReach}
 use Rattle.xdb_key.specs.Order.{is_below, is_upto}
 use Rattle.xdb_key.specs.Reading.{◌>>=◌}
+use Rattle.xdb_rangedel.proofs.CoverLaws.{below-earlier_of, upto-later_of}
 use Rattle.xdb_rangedel.proofs.MemberLaws.{Has-map, Has-from_map, none-held}
-use Rattle.xdb_rangedel.proofs.RangeLaws.{empty-view, nothing-view}
+use Rattle.xdb_rangedel.proofs.RangeLaws.{empty-view, nothing-view, newest-view}
 use Rattle.xdb_rangedel.specs.Clip.{parts_in}
-use Rattle.xdb_rangedel.specs.Content.{Item, span, entry_of, content_of}
+use Rattle.xdb_rangedel.specs.Content.{Item, span, newest, entry_of, content_of}
 use Rattle.xdb_rangedel.specs.Layers.{IsSilentAt}
 use Rattle.xdb_rangedel.specs.Members.{Has}
-use Rattle.xdb_rangedel.specs.View.{view, HasOrderedSpans}
+use Rattle.xdb_rangedel.specs.View.{view, renumbered, HasOrderedSpans}
 use Rattle.xdb_block.specs.Rows.{Row}
 use Rattle.xdb_table_r.proofs.ContentLaws.{seen_is_view}
 use Rattle.xdb_table_r.specs.Contents.{content_in}
@@ -75,6 +76,38 @@ none_there c r s o = (
   λ h. (empty-view c r s o).0 (none-held (view c r s) (λ i has. h (item_reach i) (Has-map item_reach (view c r s) i has))),
   λ silent x has. subst (λ v. Has (map item_reach v) x) ((empty-view c r s o).1 silent) has,
 )
+
+-- ---- what a side says
+
+moved : (a b c : Bool) → (a && (b && c)) ≡ (b && (a && c))
+moved true b c = refl
+moved false true c = refl
+moved false false c = refl
+
+grouped : (a b c : Bool) → ((a && b) && c) ≡ (a && (b && c))
+grouped true b c = refl
+grouped false b c = refl
+
+nested : {A : Type 0} (a b : Bool) (x : Option A) → cond (a && b) x None ≡ cond a (cond b x None) None
+nested true b x = refl
+nested false b x = refl
+
+held_left : (shown out : Bounds) (k : List ℕ) → holds (left_of shown out) k ≡ (is_below k out.lo && holds shown k)
+held_left shown out k = ap (λ b. is_upto shown.lo k && b) (below-earlier_of out.lo shown.hi k) ∙ moved (is_upto shown.lo k) (is_below k out.lo) (is_below k shown.hi)
+
+held_right : (shown out : Bounds) (k : List ℕ) → holds (right_of shown out) k ≡ (is_upto out.hi k && holds shown k)
+held_right shown out k = ap (λ b. b && is_below k shown.hi) (upto-later_of out.hi shown.lo k) ∙ grouped (is_upto out.hi k) (is_upto shown.lo k) (is_below k shown.hi)
+
+says_by : (c : List Item) (r shown : Bounds) (s limit : ℕ) (k : List ℕ) (on : Bool) → holds r k ≡ (on && holds shown k) → newest (view c r s) limit k ≡ cond on (newest (view c shown s) limit k) None
+says_by c r shown s limit k on h =
+    newest-view c r s limit k ∙ ap (λ b. cond b (newest (renumbered s c) limit k) None) h ∙ nested on (holds shown k) (newest (renumbered s c) limit k)
+    ∙ ap (λ x. cond on x None) (sym (newest-view c shown s limit k))
+
+pub left_says : (c : List Item) (shown out : Bounds) (s limit : ℕ) (k : List ℕ) → newest (view c (left_of shown out) s) limit k ≡ cond (is_below k out.lo) (newest (view c shown s) limit k) None
+left_says c shown out s limit k = says_by c (left_of shown out) shown s limit k (is_below k out.lo) (held_left shown out k)
+
+pub right_says : (c : List Item) (shown out : Bounds) (s limit : ℕ) (k : List ℕ) → newest (view c (right_of shown out) s) limit k ≡ cond (is_upto out.hi k) (newest (view c shown s) limit k) None
+right_says c shown out s limit k = says_by c (right_of shown out) shown s limit k (is_upto out.hi k) (held_right shown out k)
 
 -- ---- the extent of a side
 
