@@ -3,7 +3,7 @@ use Rattle.std.proofs.Common.{◌≡◌, true, ◌∙◌}
 use Rattle.std.proofs.lemmas.Bool.{false≢true}
 use Rattle.xdb_key.specs.Order.{is_below}
 use Rattle.xdb_key.proofs.OrderLaws.{key-below-successor}
-use Rattle.xdb_engine.proofs.asks.hull.Goals as goal
+use Rattle.xdb_engine.proofs.asking.hull.Goals as goal
 
 pub unreachable-requires : goal.unreachable-requires
 unreachable-requires c =
