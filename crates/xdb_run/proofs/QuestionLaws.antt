@@ -1,10 +1,12 @@
 -- What a run says of open questions, and what a settle and a question in parts add.
-use Rattle.std.proofs.Common.{◌≡◌, ℕ, ◌+◌, ◌≤◌, Bool, true, false, not, ◌&&◌, cond, eqb, List, [], ◌∷◌, get_or, map, Option, Some, None, is_some, refl, sym, ap, ◌∙◌, subst, arith}
+use Rattle.std.proofs.Common.{◌≡◌, ℕ, ◌+◌, ◌≤◌, Bool, true, false, not, ◌&&◌, cond, eqb, List, [], ◌∷◌, get_or, Option, Some, None, is_some, refl, sym, ap, ◌∙◌, subst, arith}
 use Rattle.std.specs.List.{All}
+use Rattle.std.specs.Option.{option_map}
 use Rattle.std.proofs.lemmas.Bool.{ne_eqb}
 use Rattle.std.proofs.lemmas.List.Elements.{All-filter, All-push}
 use Rattle.std.proofs.lemmas.List.Folds.{list_any_none}
 use Rattle.xdb_lists.proofs.PlaceLaws.{under-number, under-all}
+use Rattle.xdb_engine.proofs.AskLaws.{plain-found}
 use Rattle.xdb_engine.specs.Asks.{Grounds, IsAsked, IsAskedOf, plain_grounds}
 use Rattle.xdb_steps.specs.Notes.{plain_note}
 use Rattle.xdb_engine.specs.Ends.{answer_of, answer_act, settle_act, settle_reply, settle_leaves}
@@ -40,21 +42,12 @@ module _ {F : Type 0} where
   pub awaits : (r : Run) (e : EngineView F) (ask : ℕ) (q : Asking F) → IsAt r e → question_of ask e.questions ≡ Some q → Awaits r.worked q
   awaits r e ask q at there = under-all (λ (x : Asking F). x.ask) (Awaits r.worked) ask q e.questions at.questions there
 
-  -- the plain state has a question of that number where the engine has one
-  there-choice : {A B : Type 0} (t : Bool) (a : A) (b : B) (x : Option A) (y : Option B) → is_some x ≡ is_some y → is_some (cond t (Some a) x) ≡ is_some (cond t (Some b) y)
-  there-choice true a b x y same = refl
-  there-choice false a b x y same = same
-
-  there-plain : (ask : ℕ) (qs : List (Asking F)) → is_some (found_question ask (map plain_question qs)) ≡ is_some (question_of ask qs)
-  there-plain ask [] = refl
-  there-plain ask (q ∷ qs) = there-choice (eqb q.ask ask) (plain_question q) q (found_question ask (map plain_question qs)) (question_of ask qs) (there-plain ask qs)
-
   pub waits-by : (r : Run) (e : EngineView F) (ask : ℕ) (o : Option (Asking F)) → IsAt r e → KnowsQuestions e → question_of ask e.questions ≡ o → question_waits r ask ≡ waits_for_work o
   waits-by r e ask o at knows there =
-      ap (λ t. t && not (is_among ask r.worked)) (ap (λ p. is_some (found_question ask p.questions)) at.plain ∙ ap (λ qs. is_some (found_question ask qs)) (sym knows.questions) ∙ there-plain ask e.questions ∙ ap (λ (x : Option (Asking F)). is_some x) there)
+      ap (λ x. is_some x && not (is_among ask r.worked)) (ap (λ p. found_question ask p.questions) at.plain ∙ ap (found_question ask) (sym knows.questions) ∙ plain-found ask e.questions o there)
       ∙ by o there
     where
-      by : (o : Option (Asking F)) → question_of ask e.questions ≡ o → (is_some o && not (is_among ask r.worked)) ≡ waits_for_work o
+      by : (o : Option (Asking F)) → question_of ask e.questions ≡ o → (is_some (option_map plain_question o) && not (is_among ask r.worked)) ≡ waits_for_work o
       by None there = refl
       by (Some q) there =
           ap (λ n. not (is_among n r.worked)) (sym (under-number (λ (x : Asking F). x.ask) ask q e.questions there)) ∙ ap not (sym (awaits r e ask q at there).kept)
