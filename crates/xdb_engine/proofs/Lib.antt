@@ -1,1 +1,3 @@
-
+mod AskLaws
+mod StateLaws
+mod StepLaws

@@ -5,6 +5,7 @@ use Rattle.xdb_plain.specs.Failures.{faults, has_damage}
 use Rattle.xdb_plain.specs.Legal.{Right}
 use Rattle.xdb_plain.specs.State.{Plain, opening}
 use Rattle.xdb_plain.specs.Steps.{is_client}
+use Rattle.xdb_plain.specs.declared.act.By.{By}
 use Rattle.xdb_plain.specs.declared.note.Note.{Note}
 use Rattle.xdb_steps.specs.Core.{Core, core}
 use Rattle.xdb_steps.specs.Keeps.{Agrees, Means}
@@ -21,9 +22,9 @@ module _ {F : Type 0} where
   abbrev pub Steps : State F → State F → Note → Type 0
   Steps old new note = (p : Plain) → Agrees (core_of old) p → Step (core_of old) (core_of new) p note
 
-  -- the same of a note by a client
-  abbrev pub ClientSteps : State F → State F → Note → Type 0
-  ClientSteps old new note = IsTrue (is_client note.by) → Steps old new note
+  -- the same where it is a client who steps
+  abbrev pub ClientSteps : By → State F → State F → Note → Type 0
+  ClientSteps by old new note = IsTrue (is_client by) → Steps old new note
 
 -- `told` says that the files tell their bytes.
 pub record Stands (told : Type 0) (c : Core) (h : Recorded) (book : ℕ) : Type 0 where

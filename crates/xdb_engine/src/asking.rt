@@ -1,5 +1,5 @@
 //! Questions: how they are asked and answered.
-ghost use Rattle.std.specs.Prelude.{◌≡◌, ◌≤◌, All, map, IfOk, OnErr, IsTrue, Some};
+ghost use Rattle.std.specs.Prelude.{◌≡◌, ◌<◌, ◌≤◌, All, length, map, IfOk, OnErr, IsTrue, Some};
 ghost use Rattle.xdb_key.specs.Bounds.{key_hull};
 ghost use Rattle.xdb_laws.specs.Answered.{question_bounds, is_of_now};
 ghost use Rattle.xdb_mem.specs.Numbered.{RisesWithin};
@@ -79,7 +79,7 @@ fn ask<F: FileRef>(
     requires numbered { All (IsNumbered state.old.numbers.asked) (map plain_question state.old.asks) }
     ensures note { IsPlain by (act.Ask (asked_number result.0.reply) question parted) result.0 }
     ensures asked { IsAsked (state_grounds state.old) state.new.asks by question parted result.0.reply result.1 }
-    ensures step { ClientSteps state.old state.new result.0.note }
+    ensures step { ClientSteps by state.old state.new result.0.note }
 {
     if !is_of_now(&question) {
         let act = act_of(0, question, parted);
@@ -205,7 +205,7 @@ fn settle<F: FileRef>(alloc: Global, state: &mut State<F>, by: By, ask: u64) -> 
     ensures note { IsPlain by (settle_act ask (question_of ask state.old.asks)) result }
     ensures reply { result.reply ≡ settle_reply (question_of ask state.old.asks) }
     ensures asks { state.new.asks ≡ settle_leaves ask (question_of ask state.old.asks) state.old.asks }
-    ensures step { ClientSteps state.old state.new result.note }
+    ensures step { ClientSteps by state.old state.new result.note }
 {
     let Settled { act, noted, told } = state.asks.settle(ask);
     Verdict::new(alloc, by, act, noted, told)

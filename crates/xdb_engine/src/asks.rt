@@ -71,15 +71,16 @@ impl<F: FileRef> Asks<F> {
         ensures opened { OnOk result (self.new ≡ self.old ++ question ∷ []) }
         ensures unchanged { OnErr result (self.new ≡ self.old) }
     {
-        match self.questions.push(question) {
-            Ok(()) => Ok(()),
-            Err(_) => Err(AllocError),
-        }
+        self.questions.try_reserve(1)?;
+        self.questions.push_reserved(question);
+        Ok(())
     }
 
     /// Ends the question where its result is kept. It takes no memory.
     pub fn settle(&mut self, ask: u64) -> Settled
-        ensures { IsSettled ask (question_of ask self.old) self.old self.new result }
+        ensures settled { IsSettled ask (question_of ask self.old) self.old self.new result }
+        // So that the caller has it of what was kept.
+        ensures asks { AreAsks self.old }
     {
         let Some(at) = place(&self.questions, ask) else {
             return early(ask, Reply::NoSuch, Reply::NoSuch);

@@ -85,7 +85,7 @@ fn commit<F: FileRef>(
     requires above { state.old.mem.greatest < state.old.numbers.next }
     requires upto { state.old.numbers.next ≤ 2 ^ 56 }
     ensures note { IsPlain by (act.Commit form batch) result }
-    ensures step { ClientSteps state.old state.new result.note }
+    ensures step { ClientSteps by state.old state.new result.note }
     ensures asks { state.new.asks ≡ state.old.asks }
 {
     let next = state.numbers.next;

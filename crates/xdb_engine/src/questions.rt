@@ -94,7 +94,9 @@ impl<F: FileRef> OpenRead<F> {
     /// Keeps a result.
     pub fn bring(&mut self, done: ReadDone)
         requires { ReadFits self.old.given done }
-        ensures { self.new ≡ with_story self.old self.old.story (Some done) }
+        ensures kept { self.new ≡ with_story self.old self.old.story (Some done) }
+        ensures same { self.new ≡ with_story self.old self.new.story self.new.kept }
+        ensures fits { FitsGiven self.new }
     {
         self.work.bring(done);
     }
