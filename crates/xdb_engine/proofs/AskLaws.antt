@@ -1,14 +1,13 @@
 -- The open questions: at a place, when one ends, and when one has another story and result.
-use Rattle.std.proofs.Common.{◌≡◌, ℕ, ◌+◌, ◌<◌, ◌≤◌, Bool, true, false, not, cond, eqb, List, [], ◌∷◌, ◌++◌, All, length, map, get_or, set, Option, Some, None, refl, sym, ap, ◌∙◌, subst, arith}
+use Rattle.std.proofs.Common.{◌≡◌, ℕ, ◌<◌, Bool, true, false, not, cond, eqb, List, [], ◌∷◌, ◌++◌, All, length, map, get_or, set, Option, Some, None, refl, sym, ap, ◌∙◌, subst, arith}
 use Rattle.std.specs.Option.{option_map, is_some, IfSome}
 use Rattle.std.specs.List.{remove}
 use Rattle.std.proofs.lemmas.Bool.{false≢true}
-use Rattle.std.proofs.lemmas.List.{length-append, length-map, set-get_or}
+use Rattle.std.proofs.lemmas.List.{get_or-map, length-append, length-map, set-get_or}
 use Rattle.std.proofs.lemmas.List.Elements.{All-filter, All-push}
 use Rattle.std.proofs.lemmas.List.Filters.{length-filter_both}
 use Rattle.std.proofs.lemmas.List.Kept.{AllPairs-filter}
 use Rattle.std.proofs.lemmas.List.Quantifiers.{all_pairs_push}
-use Rattle.xdb_lists.specs.Keyed.{IsRising}
 use Rattle.xdb_lists.proofs.KeyLaws.{key_found}
 use Rattle.xdb_lists.proofs.PlaceLaws.{remove_is, set_is, map-with_one, all-with_one, under-all, rising-same}
 use Rattle.xdb_plain.specs.State.{found_question}
@@ -17,6 +16,7 @@ use Rattle.xdb_rangedel.specs.Content.{IsClear}
 use Rattle.xdb_read.specs.Fits.{content, ReadFits}
 use Rattle.xdb_read.specs.declared.parts.ReadDone.{ReadDone}
 use Rattle.xdb_steps.proofs.Found.{found-mapped}
+use Rattle.xdb_steps.specs.Parts.Asks.{IsNumbered}
 use Rattle.xdb_engine.specs.Ends.{IsSettled, answer_act, answer_of}
 use Rattle.xdb_engine.specs.Questions.{Asking, AreAsks, FitsGiven, IsPlaceOf, LooksAt, LooksFor, LooksUnlessKept, plain_question, put, question_of, with_story, without}
 use Rattle.xdb_engine.specs.declared.questions.Settled.{Settled}
@@ -25,6 +25,11 @@ module _ {F : Type 0} where
   -- the plain question of a number
   pub plain-found : (ask : ℕ) (qs : List (Asking F)) (o : Option (Asking F)) → question_of ask qs ≡ o → found_question ask (map plain_question qs) ≡ option_map plain_question o
   plain-found ask qs o is = found-mapped plain_question ask qs ∙ ap (option_map plain_question) is
+
+  -- what holds of the plain questions' numbers
+  pub numbered-asks : (asked : ℕ) (qs : List (Asking F)) → All (IsNumbered asked) (map plain_question qs) → All (λ q. IsNumbered asked (plain_question q)) qs
+  numbered-asks asked qs all = λ k d l.
+      subst (IsNumbered asked) (get_or-map plain_question qs k d (plain_question d) l) (all k (plain_question d) (subst (λ n. k < n) (sym (length-map qs plain_question)) l))
 
   pub asks-pushed : (q : Asking F) (qs : List (Asking F)) → AreAsks qs → length qs < 64 → All (λ x. x.ask < q.ask) qs → IsClear (content q.given) → FitsGiven q → AreAsks (qs ++ q ∷ [])
   asks-pushed q qs a few last clear fits = record {

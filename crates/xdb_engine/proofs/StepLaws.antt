@@ -13,12 +13,11 @@ use Rattle.xdb_laws.specs.Image.{image, AreAlikeIn}
 use Rattle.xdb_lists.proofs.PlaceLaws.{under-number, under-all}
 use Rattle.xdb_mem.proofs.ContentLaws.{items-clear}
 use Rattle.xdb_mem.specs.Numbered.{RisesWithin}
-use Rattle.xdb_mem.specs.Queue.{groups, all_ops, committed}
+use Rattle.xdb_mem.specs.Queue.{Queue, groups, all_ops, committed}
 use Rattle.xdb_order.specs.Desk.{fresh_story}
 use Rattle.xdb_plain.specs.Answers.{answer_now}
 use Rattle.xdb_plain.specs.State.{Plain, found_question}
 use Rattle.xdb_plain.specs.Steps.{is_client}
-use Rattle.xdb_plain.specs.declared.act.Act.{Act}
 use Rattle.xdb_plain.specs.declared.act.Act.TheVariants as act
 use Rattle.xdb_plain.specs.declared.act.By.{By}
 use Rattle.xdb_plain.specs.declared.act.By.TheVariants.{Db}
@@ -26,7 +25,6 @@ use Rattle.xdb_plain.specs.declared.act.CommitForm.{CommitForm}
 use Rattle.xdb_plain.specs.declared.note.Note.{Note}
 use Rattle.xdb_plain.specs.declared.question.Place.TheVariants.{Before}
 use Rattle.xdb_plain.specs.declared.question.Question.{Question}
-use Rattle.xdb_plain.specs.declared.reply.Reply.{Reply}
 use Rattle.xdb_plain.specs.declared.reply.Reply.TheVariants.{Done, Asked, Answered, NoSuch, NotYet, TooMany, Memory}
 use Rattle.xdb_rangedel.specs.Content.{IsClear}
 use Rattle.xdb_read.specs.Fits.{content, parts_map, meant, ReadFits}
@@ -51,8 +49,10 @@ use Rattle.xdb_engine.proofs.AskLaws.{plain-found}
 module _ {F : Type 0} (old : State F) where
   -- ---- a commit
 
-  pub committed-steps : (new : State F) (by : By) (form : CommitForm) (ops : List Op) (note : Note) → note ≡ plain_note by (act.Commit form ops) Done → new ≡ record old { mem = committed old.numbers.next ops old.mem; numbers = record old.numbers { next = old.numbers.next + length ops } } → old.numbers.next + length ops ≤ 2 ^ 56 → ClientSteps by old new note
-  committed-steps new by form ops note is left room = subst (λ (x : State F × Note). ClientSteps by old x.0 x.1) (λ i. (sym left i, sym is i)) (λ client p a. done (core_of old) p by form ops a client room)
+  pub committed-steps : (mem : Queue) (count : ℕ) (by : By) (form : CommitForm) (ops : List Op) (note : Note) → note ≡ plain_note by (act.Commit form ops) Done → mem ≡ committed old.numbers.next ops old.mem → count ≡ length ops → old.numbers.next + length ops ≤ 2 ^ 56 → ClientSteps by old (record old { mem = mem; numbers = record old.numbers { next = old.numbers.next + count } }) note
+  committed-steps mem count by form ops note is added counted room =
+      subst (λ (x : (Queue × ℕ) × Note). ClientSteps by old (record old { mem = x.0.0; numbers = record old.numbers { next = old.numbers.next + x.0.1 } }) x.1) (λ i. ((sym added i, sym counted i), sym is i))
+      (λ client p a. done (core_of old) p by form ops a client room)
 
   -- ---- a question that is asked
 
@@ -89,14 +89,16 @@ module _ {F : Type 0} (old : State F) where
         (λ client p a. opened (core_of old) p by question parted (meant given) a client o.of_now (omega arith) (λ m. parts-mean p question given a m o.of_now o.parts))
 
     -- nothing is opened
-    pub no_such-steps : is_of_now question ≡ false → ClientSteps by old old (plain_note by (act.Ask 0 question parted) NoSuch)
-    no_such-steps then = λ client p a. no_such (core_of old) p by question parted a client then
+    pub no_such-steps : (note : Note) → note ≡ plain_note by (act.Ask 0 question parted) NoSuch → is_of_now question ≡ false → ClientSteps by old old note
+    no_such-steps note is then = subst (ClientSteps by old old) (sym is) (λ client p a. no_such (core_of old) p by question parted a client then)
 
-    pub too_many-steps : is_of_now question ≡ true → 64 ≤ length old.asks → ClientSteps by old old (plain_note by (act.Ask 0 question parted) TooMany)
-    too_many-steps now many = λ client p a. too_many (core_of old) p by question parted a client now (let n = length-map old.asks plain_question in omega arith)
+    pub too_many-steps : (note : Note) → note ≡ plain_note by (act.Ask 0 question parted) TooMany → is_of_now question ≡ true → 64 ≤ length old.asks → ClientSteps by old old note
+    too_many-steps note is now many = subst (ClientSteps by old old) (sym is) (λ client p a.
+        too_many (core_of old) p by question parted a client now (let n = length-map old.asks plain_question in omega arith))
 
-    pub lacking-steps : is_of_now question ≡ true → length old.asks < 64 → ClientSteps by old old (plain_note by (act.Ask 0 question parted) Memory)
-    lacking-steps now few = λ client p a. lacking (core_of old) p by question parted a client now (let n = length-map old.asks plain_question in omega arith)
+    pub lacking-steps : (new : State F) (note : Note) → note ≡ plain_note by (act.Ask 0 question parted) Memory → new ≡ old → is_of_now question ≡ true → length old.asks < 64 → ClientSteps by old new note
+    lacking-steps new note is same now few = subst (λ (x : State F × Note). ClientSteps by old x.0 x.1) (λ i. (sym same i, sym is i)) (λ client p a.
+        lacking (core_of old) p by question parted a client now (let n = length-map old.asks plain_question in omega arith))
 
   -- ---- a question that ends
 
@@ -116,19 +118,19 @@ module _ {F : Type 0} (old : State F) where
           let fits : ReadFits q.given done = subst (λ k. IfSome k (ReadFits q.given)) kept (under-all (λ (x : Asking F). x.ask) FitsGiven q.ask q old.asks s.fits there) in
           let clear : IsClear (content q.given) = under-all (λ (x : Asking F). x.ask) (λ (x : Asking F). IsClear (content x.given)) q.ask q old.asks s.clear there in
           let right : (meant q.given).answer ≡ done.answer = sym (ap (λ l. l.answer) (fits.right clear)) in
-          let by-parted : (b : Bool) → q.parted ≡ b → Step (core_of old) (ended_core (core_of old) q.ask) p (plain_note by (cond b (act.Settle q.ask) (act.Ask q.ask q.given.question false)) (Answered done.answer)) = λ b. elim b [
+          subst (λ d. Step (core_of old) d p (plain_note by (answer_act q) (Answered done.answer))) ended
+          (elim q.parted as (λ b. q.parted ≡ b → Step (core_of old) (ended_core (core_of old) q.ask) p (plain_note by (cond b (act.Settle q.ask) (act.Ask q.ask q.given.question false)) (Answered done.answer))) [
             | true ↦ λ e. settles.in_parts (core_of old) p by q.ask a client (plain_question q) plain-there done.answer (λ m. right) e
             | false ↦ λ e. settles.whole (core_of old) p by q.ask a client (plain_question q) plain-there done.answer (λ m. right) e
-          ] in
-          subst (λ d. Step (core_of old) d p (plain_note by (answer_act q) (Answered done.answer))) ended (by-parted q.parted refl)
+          ] refl)
 
       fail-steps : Steps old later (plain_note (failure_by q) (failure_act q) Memory)
       fail-steps = λ p a.
-          let by-parted : (b : Bool) → q.parted ≡ b → Step (core_of old) (ended_core (core_of old) q.ask) p (plain_note (cond b Db q.by) (cond b (act.Work q.ask) (act.Ask q.ask q.given.question false)) Memory) = λ b. elim b [
+          subst (λ d. Step (core_of old) d p (plain_note (failure_by q) (failure_act q) Memory)) ended
+          (elim q.parted as (λ b. q.parted ≡ b → Step (core_of old) (ended_core (core_of old) q.ask) p (plain_note (cond b Db q.by) (cond b (act.Work q.ask) (act.Ask q.ask q.given.question false)) Memory)) [
             | true ↦ λ e. failures.in_parts (core_of old) p q.ask (plain_question q) a plain-there e
             | false ↦ λ e. failures.whole (core_of old) p q.ask (plain_question q) a plain-there e
-          ] in
-          subst (λ d. Step (core_of old) d p (plain_note (failure_by q) (failure_act q) Memory)) ended (by-parted q.parted refl)
+          ] refl)
 
     module _ (ask : ℕ) where
       number : (q : Asking F) → question_of ask old.asks ≡ Some q → q.ask ≡ ask

@@ -83,11 +83,17 @@ fn ask<F: FileRef>(
 {
     if !is_of_now(&question) {
         let act = act_of(0, question, parted);
-        return (Verdict::new(alloc, by, act, Reply::NoSuch, Reply::NoSuch), None);
+        return (
+            Verdict::new(alloc, by, act, Reply::NoSuch, Reply::NoSuch),
+            None,
+        );
     }
     if state.asks.len() >= MOST_QUESTIONS {
         let act = act_of(0, question, parted);
-        return (Verdict::new(alloc, by, act, Reply::TooMany, Reply::TooMany), None);
+        return (
+            Verdict::new(alloc, by, act, Reply::TooMany, Reply::TooMany),
+            None,
+        );
     }
     match open(alloc, state, by, &question, parted) {
         Ok((ask, hand)) => {
@@ -97,7 +103,10 @@ fn ask<F: FileRef>(
         }
         Err(AllocError) => {
             let act = act_of(0, question, parted);
-            (Verdict::new(alloc, by, act, Reply::Memory, Reply::Memory), None)
+            (
+                Verdict::new(alloc, by, act, Reply::Memory, Reply::Memory),
+                None,
+            )
         }
     }
 }

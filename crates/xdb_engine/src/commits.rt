@@ -121,7 +121,13 @@ fn seal<F: FileRef>(alloc: Global, state: &mut State<F>) -> Verdict
     match state.mem.seal() {
         None => Verdict::new(alloc, By::Db, Act::Seal, Reply::Nothing, Reply::Nothing),
         Some(group) => {
-            Verdict::new(alloc, By::Db, Act::Seal, Reply::Group(group), Reply::Group(group))
+            Verdict::new(
+                alloc,
+                By::Db,
+                Act::Seal,
+                Reply::Group(group),
+                Reply::Group(group),
+            )
         }
     }
 }

@@ -1,5 +1,5 @@
 -- A new engine stands for the opening state.
-use Rattle.std.proofs.Common.{map, ap}
+use Rattle.std.proofs.Common.{map}
 use Rattle.xdb_steps.specs.Core.{core}
 use Rattle.xdb_engine.specs.Questions.{plain_question}
 use Rattle.xdb_engine.specs.State.{core_of}

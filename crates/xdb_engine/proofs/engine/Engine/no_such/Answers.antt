@@ -1,5 +1,5 @@
 -- That there is no such work is a step.
-use Rattle.std.proofs.Common.{sym, ap, ◌∙◌, ◌++◌, ◌∷◌, []}
+use Rattle.std.proofs.Common.{ap, ◌∙◌, ◌++◌, ◌∷◌, []}
 use Rattle.xdb_history.specs.Recorded.{state_of}
 use Rattle.xdb_plain.specs.declared.act.By.TheVariants.{Db}
 use Rattle.xdb_plain.specs.declared.reply.Reply.TheVariants.{NoSuch}
