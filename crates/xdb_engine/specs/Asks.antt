@@ -58,6 +58,11 @@ module _ {F : Type 0} where
     pub of_now : is_of_now question ≡ true
     pub room : length g.questions < 64
 
+  -- the question is opened in the parts, where this number and these parts came of it
+  abbrev pub IsOpened : State F → State F → By → Question → Bool → ℕ × ReadParts F → Type 0
+  IsOpened old new by question parted made =
+      Opens (state_grounds old) new.asks by question parted made.0 made.1 × (new.numbers ≡ record old.numbers { asked = made.0 })
+
   -- By the reply and what is handed out. No snapshot and no cursor is open, so what is asked of one has none.
   abbrev pub IsAsked : Grounds F → List (Asking F) → By → Question → Bool → Reply → Option (ReadParts F) → Type 0
   IsAsked g new by question parted (Asked ask) (Some given) = Opens g new by question parted ask given
@@ -66,6 +71,9 @@ module _ {F : Type 0} where
   IsAsked g new by question parted Memory None = (new ≡ g.questions) × (is_of_now question ≡ true) × (length g.questions < 64)
   IsAsked g new by question parted _ _ = ⊥
 
-  -- The same from one engine to the next.
+  -- the same from one state of the parts to the next, and from one engine to the next
+  abbrev pub IsAskedIn : State F → State F → By → Question → Bool → Reply → Option (ReadParts F) → Type 0
+  IsAskedIn old new by question parted told hand = IsAsked (state_grounds old) new.asks by question parted told hand
+
   abbrev pub IsAskedOf : EngineView F → EngineView F → By → Question → Bool → Reply → Option (ReadParts F) → Type 0
   IsAskedOf old new by question parted told hand = IsAsked (plain_grounds old) new.questions by question parted told hand

@@ -9,7 +9,8 @@ use Rattle.xdb_plain.specs.declared.reply.Reply.{Reply}
 use Rattle.xdb_plain.specs.declared.reply.Reply.TheVariants as reply
 use Rattle.xdb_read.specs.declared.parts.ReadDone.{ReadDone}
 use Rattle.xdb_steps.specs.Notes.{plain_note}
-use Rattle.xdb_engine.specs.Questions.{Asking, without}
+use Rattle.xdb_engine.specs.Questions.{Asking, question_by, question_of, without}
+use Rattle.xdb_engine.specs.declared.ids.Id.{Id}
 use Rattle.xdb_engine.specs.declared.questions.Settled.{Settled}
 
 -- the reply to a settle, by what is kept
@@ -42,6 +43,13 @@ module _ {F : Type 0} where
   settle_leaves ask None questions = questions
   settle_leaves ask (Some q) questions = if is_some q.kept then without ask questions else questions
 
+  -- the same by the questions that are open
+  abbrev pub settle_note : By → ℕ → List (Asking F) → Reply → Note
+  settle_note by ask questions reply = plain_note by (settle_act ask (question_of ask questions)) reply
+
+  abbrev pub after_settle : ℕ → List (Asking F) → List (Asking F)
+  after_settle ask questions = settle_leaves ask (question_of ask questions) questions
+
   -- what a settle makes of the question of the number, if there is one
   pub record IsSettled (ask : ℕ) (question : Option (Asking F)) (old new : List (Asking F)) (settled : Settled) : Type 0 where
     pub same_act : settled.act ≡ settle_act ask question
@@ -62,3 +70,10 @@ module _ {F : Type 0} where
   abbrev pub failure_leaves : Option (Asking F) → List (Asking F) → List (Asking F)
   failure_leaves None questions = questions
   failure_leaves (Some q) questions = without q.ask questions
+
+  -- the same by the questions that are open
+  abbrev pub lack_note : Id → List (Asking F) → Reply → Note
+  lack_note id questions reply = failure_note (question_by id questions) reply
+
+  abbrev pub after_failure : Id → List (Asking F) → List (Asking F)
+  after_failure id questions = failure_leaves (question_by id questions) questions

@@ -2,7 +2,7 @@
 pub mod Files
 pub mod Questions
 pub mod Ends
-pub mod Verdicts
+pub mod Notes
 pub mod View
 pub mod Asks
 pub mod State

@@ -1,6 +1,7 @@
 -- Open questions as an engine keeps them, the one that was asked first in front.
 use Rattle.std.specs.Prelude.{◌≡◌, ℕ, ◌<◌, ◌≤◌, Bool, true, false, not, All, List, length, map, filter, Option, Some, None, ◌==◌, is_some, IfSome, if◌then◌else◌}
 use Rattle.std.specs.List.{find, HoldsAt}
+use Rattle.std.specs.Option.{option_map}
 use Rattle.xdb_lists.specs.Keyed.{IsRising}
 use Rattle.xdb_order.specs.Desk.{Looks}
 use Rattle.xdb_order.specs.declared.story.Story.{Story}
@@ -10,6 +11,7 @@ use Rattle.xdb_rangedel.specs.Content.{IsClear}
 use Rattle.xdb_read.specs.Fits.{content, meant, ReadFits}
 use Rattle.xdb_read.specs.declared.parts.ReadDone.{ReadDone}
 use Rattle.xdb_read.specs.declared.parts.ReadParts.{ReadParts}
+use Rattle.xdb_steps.specs.Parts.Asks.{IsNumbered}
 use Rattle.xdb_engine.specs.declared.ids.Id.{Id}
 use Rattle.xdb_engine.specs.declared.ids.Id.TheVariants as ids
 
@@ -50,6 +52,14 @@ module _ {F : Type 0} where
   abbrev pub put : Asking F → List (Asking F) → List (Asking F)
   put r questions = map (λ q. if q.ask == r.ask then r else q) questions
 
+  -- the questions with this result kept with that one
+  abbrev pub with_result : Asking F → ReadDone → List (Asking F) → List (Asking F)
+  with_result q done questions = put (with_story q q.story (Some done)) questions
+
+  -- what was handed out for work that is under way
+  abbrev pub parts_by : Id → List (Asking F) → Option (ReadParts F)
+  parts_by id questions = option_map (λ q. q.given) (question_by id questions)
+
   -- where the question of a number stands
   abbrev pub IsPlaceOf : ℕ → List (Asking F) → Option ℕ → Type 0
   IsPlaceOf ask questions None = question_of ask questions ≡ None
@@ -65,6 +75,10 @@ module _ {F : Type 0} where
     answer = (meant q.given).answer;
     place = (meant q.given).place;
   }
+
+  -- it has a number that was given, and was asked by a client
+  abbrev pub HasNumber : ℕ → Asking F → Type 0
+  HasNumber asked q = IsNumbered asked (plain_question q)
 
   -- a result is kept with it
   abbrev pub is_kept : Option (Asking F) → Bool
@@ -106,3 +120,7 @@ module _ {F : Type 0} where
   abbrev pub LooksFor : Option (Asking F) → List (Asking F) → List (Asking F) → Bool → Type 0
   LooksFor None old new is_there = (new ≡ old) × (is_there ≡ false)
   LooksFor (Some q) old new is_there = LooksAt q.kept q old new is_there
+
+  -- the same by the questions that are open
+  abbrev pub LooksBy : Id → List (Asking F) → List (Asking F) → Bool → Type 0
+  LooksBy id old new is_there = LooksFor (question_by id old) old new is_there

@@ -1,5 +1,5 @@
 -- What contracts see of an engine.
-use Rattle.std.specs.Prelude.{◌≡◌, ℕ, ◌+◌, List, [], ◌∷◌, ◌++◌, Option, Some, None}
+use Rattle.std.specs.Prelude.{◌≡◌, ℕ, ◌+◌, List, [], ◌∷◌, ◌++◌, Option, Some, None, IfSome}
 use Rattle.xdb_history.specs.Recorded.{Recorded}
 use Rattle.xdb_plain.specs.Legal.{after_all, AnswersRight}
 use Rattle.xdb_plain.specs.State.{Plain, opening}
@@ -7,9 +7,10 @@ use Rattle.xdb_plain.specs.Steps.{MayStand}
 use Rattle.xdb_plain.specs.declared.note.Note.{Note}
 use Rattle.xdb_read.specs.Fits.{ReadFits}
 use Rattle.xdb_read.specs.declared.parts.ReadParts.{ReadParts}
-use Rattle.xdb_engine.specs.Questions.{Asking, put, with_story}
+use Rattle.xdb_engine.specs.Questions.{Asking, question_by, with_result}
 use Rattle.xdb_engine.specs.declared.ids.Given.{Given}
 use Rattle.xdb_engine.specs.declared.ids.Given.TheVariants as given
+use Rattle.xdb_engine.specs.declared.ids.Id.{Id}
 use Rattle.xdb_engine.specs.declared.ids.Outcome.{Outcome}
 use Rattle.xdb_engine.specs.declared.ids.Outcome.TheVariants as outcome
 
@@ -64,4 +65,8 @@ FitsQuestion q (outcome.Read done) = ReadFits q.given done
 
 -- a result is kept with the question
 abbrev pub IsBrought : {F : Type 0} → Asking F → Outcome → EngineView F → EngineView F → Type 0
-IsBrought q (outcome.Read done) old new = new ≡ with_questions old (put (with_story q q.story (Some done)) old.questions)
+IsBrought q (outcome.Read done) old new = new ≡ with_questions old (with_result q done old.questions)
+
+-- with the question that work under way is for, if there is one
+abbrev pub IsBroughtTo : {F : Type 0} → Id → Outcome → EngineView F → EngineView F → Type 0
+IsBroughtTo id out old new = IfSome (question_by id old.questions) (λ q. IsBrought q out old new)

@@ -9,11 +9,11 @@ ghost use Rattle.xdb_plain.specs.declared.act.Act.TheVariants as act;
 ghost use Rattle.xdb_plain.specs.declared.act.By.TheVariants.{Client};
 ghost use Rattle.xdb_steps.specs.Notes.{plain_note};
 ghost use Rattle.xdb_steps.specs.Parts.Asks.{IsNumbered};
-ghost use Rattle.xdb_engine.specs.Asks.{ArePartsOf, Opens, IsAsked, IsAskedOf, state_grounds};
-ghost use Rattle.xdb_engine.specs.Ends.{settle_act, settle_reply, settle_leaves};
+ghost use Rattle.xdb_engine.specs.Asks.{ArePartsOf, IsOpened, IsAskedIn, IsAskedOf};
+ghost use Rattle.xdb_engine.specs.Ends.{settle_act, settle_note, settle_reply, after_settle};
 ghost use Rattle.xdb_engine.specs.Questions.{plain_question, question_of};
-ghost use Rattle.xdb_engine.specs.State.{ClientSteps};
-ghost use Rattle.xdb_engine.specs.Verdicts.{IsPlain};
+ghost use Rattle.xdb_engine.specs.State.{core_of, ClientSteps};
+ghost use Rattle.xdb_engine.specs.Notes.{IsPlain, ask_note};
 ghost use Rattle.xdb_engine.specs.View.{Adds};
 
 use crate::asks::MOST_QUESTIONS;
@@ -42,7 +42,7 @@ impl<F: FileRef, L: Ledger> Engine<F, L> {
     ) -> (Reply, Option<Hand<ReadWork<F>>>)
         requires room { 1 ≤ self.old.spare }
         requires client { IsTrue (is_client (Client client)) }
-        ensures note { Adds self.old self.new (plain_note (Client client) (act.Ask (asked_number result.0) question parted) result.0) }
+        ensures note { Adds self.old self.new (ask_note (Client client) question parted result.0) }
         // What is handed out, and the questions that are open then.
         ensures asked { IsAskedOf self.old self.new (Client client) question parted result.0 result.1 }
     {
@@ -57,9 +57,9 @@ impl<F: FileRef, L: Ledger> Engine<F, L> {
     pub fn settle(&mut self, client: u8, ask: u64) -> Reply
         requires room { 1 ≤ self.old.spare }
         requires client { IsTrue (is_client (Client client)) }
-        ensures note { Adds self.old self.new (plain_note (Client client) (settle_act ask (question_of ask self.old.questions)) result) }
+        ensures note { Adds self.old self.new (settle_note (Client client) ask self.old.questions result) }
         ensures reply { result ≡ settle_reply (question_of ask self.old.questions) }
-        ensures questions { self.new.questions ≡ settle_leaves ask (question_of ask self.old.questions) self.old.questions }
+        ensures questions { self.new.questions ≡ after_settle ask self.old.questions }
     {
         let verdict = settle(self.alloc, &mut self.state, By::Client(client), ask);
         self.history.push(verdict.note);
@@ -76,9 +76,9 @@ fn ask<F: FileRef>(
     parted: bool,
 ) -> (Verdict, Option<Hand<ReadWork<F>>>)
     requires rising { RisesWithin 1 state.old.numbers.next (all_ops (groups state.old.mem)) }
-    requires numbered { All (IsNumbered state.old.numbers.asked) (map plain_question state.old.asks) }
+    requires numbered { All (IsNumbered state.old.numbers.asked) (core_of state.old).asks }
     ensures note { IsPlain by (act.Ask (asked_number result.0.reply) question parted) result.0 }
-    ensures asked { IsAsked (state_grounds state.old) state.new.asks by question parted result.0.reply result.1 }
+    ensures asked { IsAskedIn state.old state.new by question parted result.0.reply result.1 }
     ensures step { ClientSteps by state.old state.new result.0.note }
 {
     if !is_of_now(&question) {
@@ -133,9 +133,8 @@ fn open<F: FileRef>(
     requires now { IsTrue (is_of_now question.now) }
     requires few { length state.old.asks < 64 }
     requires rising { RisesWithin 1 state.old.numbers.next (all_ops (groups state.old.mem)) }
-    requires numbered { All (IsNumbered state.old.numbers.asked) (map plain_question state.old.asks) }
-    ensures opened { IfOk result (λ made. Opens (state_grounds state.old) state.new.asks by question.now parted made.0 made.1) }
-    ensures numbers { IfOk result (λ made. state.new.numbers ≡ record state.old.numbers { asked = made.0 }) }
+    requires numbered { All (IsNumbered state.old.numbers.asked) (core_of state.old).asks }
+    ensures opened { IfOk result (IsOpened state.old state.new by question.now parted) }
     ensures mem { state.new.mem ≡ state.old.mem }
     ensures unchanged { OnErr result (state.new ≡ state.old) }
 {
@@ -213,7 +212,7 @@ fn is_of_now(question: &Question) -> bool
 fn settle<F: FileRef>(alloc: Global, state: &mut State<F>, by: By, ask: u64) -> Verdict
     ensures note { IsPlain by (settle_act ask (question_of ask state.old.asks)) result }
     ensures reply { result.reply ≡ settle_reply (question_of ask state.old.asks) }
-    ensures asks { state.new.asks ≡ settle_leaves ask (question_of ask state.old.asks) state.old.asks }
+    ensures asks { state.new.asks ≡ after_settle ask state.old.asks }
     ensures step { ClientSteps by state.old state.new result.note }
 {
     let Settled { act, noted, told } = state.asks.settle(ask);

@@ -5,7 +5,7 @@ ghost use Rattle.xdb_lists.specs.Keyed.{IsRising};
 ghost use Rattle.xdb_plain.specs.declared.act.Act.TheVariants as act;
 ghost use Rattle.xdb_rangedel.specs.Content.{IsClear};
 ghost use Rattle.xdb_read.specs.Fits.{content, ReadFits};
-ghost use Rattle.xdb_engine.specs.Questions.{AreAsks, FitsGiven, IsPlaceOf, LooksFor, plain_question, put, question_of, with_story};
+ghost use Rattle.xdb_engine.specs.Questions.{AreAsks, FitsGiven, IsPlaceOf, LooksFor, plain_question, question_of, with_result};
 ghost use Rattle.xdb_engine.specs.Ends.{IsSettled, failure, failure_leaves};
 
 use crate::OpenRead;
@@ -119,7 +119,7 @@ impl<F: FileRef> Asks<F> {
     pub fn bring(&mut self, ask: u64, done: ReadDone)
         requires there { IsSome (question_of ask self.old) }
         requires fits { IfSome (question_of ask self.old) (λ q. ReadFits q.given done) }
-        ensures placed { IfSome (question_of ask self.old) (λ q. self.new ≡ put (with_story q q.story (Some done)) self.old) }
+        ensures placed { IfSome (question_of ask self.old) (λ q. self.new ≡ with_result q done self.old) }
         ensures same { map plain_question self.new ≡ map plain_question self.old }
     {
         let Some(at) = place(&self.questions, ask) else {

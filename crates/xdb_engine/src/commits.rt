@@ -7,7 +7,7 @@ ghost use Rattle.xdb_plain.specs.declared.act.Act.TheVariants as act;
 ghost use Rattle.xdb_plain.specs.declared.act.By.TheVariants.{Client, Db};
 ghost use Rattle.xdb_steps.specs.Notes.{plain_note};
 ghost use Rattle.xdb_engine.specs.State.{Steps, ClientSteps};
-ghost use Rattle.xdb_engine.specs.Verdicts.{IsPlain};
+ghost use Rattle.xdb_engine.specs.Notes.{IsPlain, commit_note};
 ghost use Rattle.xdb_engine.specs.View.{plain_of, Adds};
 
 use crate::Engine;
@@ -29,7 +29,7 @@ impl<F: FileRef, L: Ledger> Engine<F, L> {
     pub fn commit(&mut self, client: u8, form: CommitForm, batch: Batch) -> Reply
         requires room { 1 ≤ self.old.spare }
         requires client { IsTrue (is_client (Client client)) }
-        ensures note { Adds self.old self.new (plain_note (Client client) (act.Commit form batch) result) }
+        ensures note { Adds self.old self.new (commit_note (Client client) form batch result) }
         ensures questions { self.new.questions ≡ self.old.questions }
     {
         let verdict = commit(self.alloc, &mut self.state, By::Client(client), form, batch);
@@ -74,7 +74,8 @@ impl<F: FileRef, L: Ledger> Engine<F, L> {
     }
 }
 
-/// Commits the operations under the numbers from the next one on, where these are there and memory is.
+/// Commits the operations under the numbers from the next one on, where these are there and memory
+/// is.
 fn commit<F: FileRef>(
     alloc: Global,
     state: &mut State<F>,

@@ -3,9 +3,8 @@ ghost use Rattle.std.specs.Prelude.{◌≡◌, ◌+◌, ◌*◌, ◌≤◌, ◌^
 ghost use Rattle.xdb_plain.specs.Counts.{dead};
 ghost use Rattle.xdb_plain.specs.Failures.{faults, has_damage};
 ghost use Rattle.xdb_plain.specs.Legal.{IsRight};
-ghost use Rattle.xdb_steps.specs.Parts.Asks.{IsNumbered};
 ghost use Rattle.xdb_engine.specs.Files.{AreTold};
-ghost use Rattle.xdb_engine.specs.Questions.{plain_question, FitsGiven};
+ghost use Rattle.xdb_engine.specs.Questions.{plain_question, FitsGiven, HasNumber};
 ghost use Rattle.xdb_engine.specs.View.{plain_of};
 
 use crate::state::State;
@@ -88,7 +87,7 @@ impl<F: FileRef, L: Ledger> Engine<F, L> {
         // What the parts of each open question mean is its answer.
         ensures questions { map plain_question self.now.questions ≡ (plain_of self.now).questions }
         // Each has a number that was given, and was asked by a client.
-        ensures numbered { All (λ q. IsNumbered (plain_of self.now).asked (plain_question q)) self.now.questions }
+        ensures numbered { All (HasNumber (plain_of self.now).asked) self.now.questions }
         // What is kept for one fits what was handed out for it.
         ensures fits { All FitsGiven self.now.questions }
         // The book is the number of failures of devices that the notes tell.

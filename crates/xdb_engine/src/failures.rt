@@ -3,10 +3,9 @@ ghost use Rattle.std.specs.Prelude.{◌≡◌, ◌≤◌, [], IsTrue, IsSome};
 ghost use Rattle.xdb_plain.specs.declared.act.By.TheVariants.{Db};
 ghost use Rattle.xdb_plain.specs.declared.reply.Reply.TheVariants as reply;
 ghost use Rattle.xdb_steps.specs.Notes.{plain_note, is_work};
-ghost use Rattle.xdb_engine.specs.Ends.{failure, failure_note, failure_leaves};
+ghost use Rattle.xdb_engine.specs.Ends.{lack_note, after_failure};
 ghost use Rattle.xdb_engine.specs.Questions.{question_by};
 ghost use Rattle.xdb_engine.specs.State.{Steps};
-ghost use Rattle.xdb_engine.specs.Verdicts.{IsPlain};
 ghost use Rattle.xdb_engine.specs.View.{Adds};
 
 use crate::notes::Verdict;
@@ -24,9 +23,9 @@ impl<F: FileRef, L: Ledger> Engine<F, L> {
         requires room { 1 ≤ self.old.spare }
         requires there { IsSome (question_by id self.old.questions) }
         requires tried { tried.items ≡ [] }
-        ensures note { Adds self.old self.new (failure_note (question_by id self.old.questions) result) }
+        ensures note { Adds self.old self.new (lack_note id self.old.questions result) }
         ensures reply { result ≡ reply.Memory }
-        ensures questions { self.new.questions ≡ failure_leaves (question_by id self.old.questions) self.old.questions }
+        ensures questions { self.new.questions ≡ after_failure id self.old.questions }
     {
         let verdict = lack(self.alloc, &mut self.state, id);
         self.history.push(verdict.note);
@@ -50,9 +49,9 @@ impl<F: FileRef, L: Ledger> Engine<F, L> {
 /// Ends the question for want of memory.
 fn lack<F: FileRef>(alloc: Global, state: &mut State<F>, id: Id) -> Verdict
     requires there { IsSome (question_by id state.old.asks) }
-    ensures note { IsPlain (failure (question_by id state.old.asks)).0 (failure (question_by id state.old.asks)).1 result }
+    ensures note { result.note ≡ lack_note id state.old.asks result.reply }
     ensures reply { result.reply ≡ reply.Memory }
-    ensures asks { state.new.asks ≡ failure_leaves (question_by id state.old.asks) state.old.asks }
+    ensures asks { state.new.asks ≡ after_failure id state.old.asks }
     ensures step { Steps state.old state.new result.note }
 {
     let Id::Ask(ask) = id else { unreachable!() };

@@ -1,5 +1,5 @@
 ghost use Rattle.std.specs.Prelude.{◌≡◌};
-ghost use Rattle.xdb_engine.specs.Verdicts.{IsPlain};
+ghost use Rattle.xdb_engine.specs.Notes.{IsPlain};
 
 use std::alloc::Global;
 use xdb_plain::{Act, By, Items, Note, Reply};

@@ -2,8 +2,8 @@
 ghost use Rattle.std.specs.Prelude.{◌≡◌, None, Some, map, IfSome, IsSome};
 ghost use Rattle.std.specs.Option.{option_map, option_copied};
 ghost use Rattle.xdb_read.specs.Fits.{ReadFits};
-ghost use Rattle.xdb_engine.specs.Questions.{is_kept, plain_question, put, question_by, with_story, LooksFor};
-ghost use Rattle.xdb_engine.specs.View.{with_questions, lent_parts, FitsQuestion, IsBrought};
+ghost use Rattle.xdb_engine.specs.Questions.{is_kept, parts_by, plain_question, question_by, with_result, LooksBy};
+ghost use Rattle.xdb_engine.specs.View.{with_questions, lent_parts, FitsQuestion, IsBroughtTo};
 
 use crate::asks::Asks;
 use crate::{Engine, Given, Id, OpenRead, Outcome};
@@ -15,7 +15,7 @@ impl<F: FileRef, L: Ledger> Engine<F, L> {
     /// Looks for the result of work that is under way where none is kept, and answers whether one is
     /// kept then. It isn't recorded; it takes no memory and never waits.
     pub fn arrived(&mut self, id: Id) -> bool
-        ensures looked { LooksFor (question_by id self.old.questions) self.old.questions self.new.questions result }
+        ensures looked { LooksBy id self.old.questions self.new.questions result }
         ensures same { self.new ≡ with_questions self.old self.new.questions }
     {
         look(&mut self.state.asks, id)
@@ -27,7 +27,7 @@ impl<F: FileRef, L: Ledger> Engine<F, L> {
         requires there { IsSome (question_by id self.old.questions) }
         requires waits { IfSome (question_by id self.old.questions) (λ q. q.kept ≡ None) }
         requires fits { IfSome (question_by id self.old.questions) (λ q. FitsQuestion q out) }
-        ensures { IfSome (question_by id self.old.questions) (λ q. IsBrought q out self.old self.new) }
+        ensures { IsBroughtTo id out self.old self.new }
     {
         let Outcome::Read(done) = out;
         bring(&mut self.state.asks, id, done);
@@ -35,7 +35,7 @@ impl<F: FileRef, L: Ledger> Engine<F, L> {
 
     /// What was handed out for work that is under way; none where there is no such work.
     pub fn given(&self, id: &Id) -> Option<Given<'_, F>>
-        ensures { lent_parts result ≡ option_map (λ q. q.given) (question_by id.now self.now.questions) }
+        ensures { lent_parts result ≡ parts_by id.now self.now.questions }
     {
         find(&self.state.asks, *id).map(|question| Given::Read(question.given()))
     }
@@ -69,7 +69,7 @@ fn find<F: FileRef>(asks: &Asks<F>, id: Id) -> Option<&OpenRead<F>>
 }
 
 fn look<F: FileRef>(asks: &mut Asks<F>, id: Id) -> bool
-    ensures looks { LooksFor (question_by id asks.old) asks.old asks.new result }
+    ensures looks { LooksBy id asks.old asks.new result }
     ensures same { map plain_question asks.new ≡ map plain_question asks.old }
 {
     match id {
@@ -81,7 +81,7 @@ fn look<F: FileRef>(asks: &mut Asks<F>, id: Id) -> bool
 fn bring<F: FileRef>(asks: &mut Asks<F>, id: Id, done: ReadDone)
     requires there { IsSome (question_by id asks.old) }
     requires fits { IfSome (question_by id asks.old) (λ q. ReadFits q.given done) }
-    ensures placed { IfSome (question_by id asks.old) (λ q. asks.new ≡ put (with_story q q.story (Some done)) asks.old) }
+    ensures placed { IfSome (question_by id asks.old) (λ q. asks.new ≡ with_result q done asks.old) }
     ensures same { map plain_question asks.new ≡ map plain_question asks.old }
 {
     let Id::Ask(ask) = id else { unreachable!() };

@@ -27,7 +27,7 @@ returns-in-Ok-clause-step g c =
     let e = c.in-Ok.ensures in
     let v = c.new-verdict in
     opened-steps a.state.now a.by a.question a.parted c.open.new.state c.in-Ok.ask c.in-Ok.hand v.result.note
-    (v.ensures.note ∙ (λ i. plain_note a.by (c.act_of-act-in-Ok.ensures i) (v.ensures.reply i))) e.opened e.numbers e.mem
+    (v.ensures.note ∙ (λ i. plain_note a.by (c.act_of-act-in-Ok.ensures i) (v.ensures.reply i))) e.opened.0 e.opened.1 e.mem
 
 pub returns-in-Err-clause-step : goal.returns-in-Err-clause-step
 returns-in-Err-clause-step g c =
