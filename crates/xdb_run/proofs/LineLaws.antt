@@ -4,6 +4,7 @@ use Rattle.std.specs.List.{list_all}
 use Rattle.std.proofs.lemmas.Bool.{and_parts}
 use Rattle.std.proofs.lemmas.List.{reverse-append}
 use Rattle.std.proofs.lemmas.List.Folds.{list_all-append}
+use Rattle.xdb_engine.specs.Notes.{commit_note}
 use Rattle.xdb_steps.specs.Notes.{plain_note}
 use Rattle.xdb_engine.specs.View.{EngineView, plain_of, Adds}
 use Rattle.xdb_key.specs.declared.op.Op.{Op}
@@ -32,7 +33,7 @@ front-left left rest line is = ap reverse is ∙ reverse-append rest (line ∷ [
 module _ {F : Type 0} where
   -- ---- lines that leave the questions
 
-  pub commit-takes : {old new : EngineView F} {by : By} {form : CommitForm} {ops batch : List Op} {told : Reply} → batch ≡ ops → Adds old new (plain_note by (act.Commit form batch) told) → new.questions ≡ old.questions → TakesLine old new (Some by) (cmd.Commit form ops)
+  pub commit-takes : {old new : EngineView F} {by : By} {form : CommitForm} {ops batch : List Op} {told : Reply} → batch ≡ ops → Adds old new (commit_note by form batch told) → new.questions ≡ old.questions → TakesLine old new (Some by) (cmd.Commit form ops)
   commit-takes {form = form} is adds same = takes-alike (grows-one adds) refl (λ r at. record { same_by = refl; same_act = ap (act.Commit form) is }) same
 
   pub seal-takes : {old new : EngineView F} {told : Reply} → Adds old new (plain_note Db act.Seal told) → new.questions ≡ old.questions → TakesLine old new (Some Db) cmd.Seal

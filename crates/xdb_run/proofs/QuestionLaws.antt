@@ -8,8 +8,9 @@ use Rattle.std.proofs.lemmas.List.Folds.{list_any_none}
 use Rattle.xdb_lists.proofs.PlaceLaws.{under-number, under-all}
 use Rattle.xdb_engine.proofs.AskLaws.{plain-found}
 use Rattle.xdb_engine.specs.Asks.{Grounds, IsAsked, IsAskedOf, plain_grounds}
+use Rattle.xdb_engine.specs.Notes.{ask_note}
 use Rattle.xdb_steps.specs.Notes.{plain_note}
-use Rattle.xdb_engine.specs.Ends.{answer_of, answer_act, settle_act, settle_reply, settle_leaves}
+use Rattle.xdb_engine.specs.Ends.{after_settle, answer_of, answer_act, settle_act, settle_leaves, settle_note, settle_reply}
 use Rattle.xdb_engine.specs.Questions.{Asking, asking, plain_question, question_of, without}
 use Rattle.xdb_engine.specs.View.{EngineView, plain_of, Adds}
 use Rattle.xdb_order.specs.Desk.{fresh_story}
@@ -82,7 +83,7 @@ module _ {F : Type 0} where
       by true = All-filter (λ q. not (eqb q.ask ask)) P qs all
       by false = all
 
-  pub settle-takes : {old new : EngineView F} {by : By} {ask : ℕ} {told : Reply} → KnowsQuestions old → Adds old new (plain_note by (settle_act ask (question_of ask old.questions)) told) → told ≡ settle_reply (question_of ask old.questions) → new.questions ≡ settle_leaves ask (question_of ask old.questions) old.questions → TakesLine old new (Some by) (cmd.Settle ask)
+  pub settle-takes : {old new : EngineView F} {by : By} {ask : ℕ} {told : Reply} → KnowsQuestions old → Adds old new (settle_note by ask old.questions told) → told ≡ settle_reply (question_of ask old.questions) → new.questions ≡ after_settle ask old.questions → TakesLine old new (Some by) (cmd.Settle ask)
   settle-takes {old} {new} {by} {ask} {told} knows adds is left =
       let o = question_of ask old.questions in
       takes (grows-one adds) refl
@@ -101,7 +102,7 @@ module _ {F : Type 0} where
   asked-await g new by question reply.Memory None ws is all low = subst (λ qs. All (Awaits ws) qs) (sym is.0) all
   asked-await g new by question _ _ ws is all low = absurd is
 
-  pub ask-takes : {old new : EngineView F} {by : By} {question : Question} {told : Reply} (hand : Option (ReadParts F)) → Adds old new (plain_note by (act.Ask (asked_number told) question true) told) → IsAskedOf old new by question true told hand → TakesLine old new (Some by) (cmd.Ask question true)
+  pub ask-takes : {old new : EngineView F} {by : By} {question : Question} {told : Reply} (hand : Option (ReadParts F)) → Adds old new (ask_note by question true told) → IsAskedOf old new by question true told hand → TakesLine old new (Some by) (cmd.Ask question true)
   ask-takes {old} {new} {by} {question} {told} hand adds is =
       takes (grows-one adds) refl
       (λ r at. (asked_number told, record { same_by = refl; same_act = refl }))

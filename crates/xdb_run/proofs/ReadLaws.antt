@@ -5,9 +5,10 @@ use Rattle.std.proofs.lemmas.List.Elements.{filter-append}
 use Rattle.xdb_lists.specs.Keyed.{without as others, replaced as placed}
 use Rattle.xdb_lists.proofs.PlaceLaws.{under-none, under-pushed, under-placed, others-none}
 use Rattle.xdb_engine.specs.Asks.{Grounds, IsAsked, IsAskedOf, plain_grounds}
+use Rattle.xdb_engine.specs.Notes.{ask_note}
 use Rattle.xdb_steps.specs.Notes.{plain_note}
-use Rattle.xdb_engine.specs.Ends.{settle_act, settle_reply, settle_leaves}
-use Rattle.xdb_engine.specs.Questions.{Asking, asking, question_of, without, with_story}
+use Rattle.xdb_engine.specs.Ends.{after_settle, settle_act, settle_leaves, settle_note, settle_reply}
+use Rattle.xdb_engine.specs.Questions.{Asking, HasNumber, asking, question_of, without, with_story}
 use Rattle.xdb_engine.specs.View.{EngineView, plain_of, Adds}
 use Rattle.xdb_order.specs.Desk.{fresh_story}
 use Rattle.xdb_plain.specs.Printed.{is_asked}
@@ -20,7 +21,7 @@ use Rattle.xdb_plain.specs.declared.reply.Reply.{Reply}
 use Rattle.xdb_plain.specs.declared.reply.Reply.TheVariants as reply
 use Rattle.xdb_plain.specs.declared.script.Cmd.TheVariants as cmd
 use Rattle.xdb_read.specs.declared.parts.ReadParts.{ReadParts}
-use Rattle.xdb_run.specs.Running.{Grows, HasNumber, KnowsQuestions, TakesLine}
+use Rattle.xdb_run.specs.Running.{Grows, KnowsQuestions, TakesLine}
 use Rattle.xdb_run.specs.Working.{Keeps, Lacks, EndsWork}
 use Rattle.xdb_run.specs.declared.works.WorkEnd.{WorkEnd}
 use Rattle.xdb_run.specs.declared.works.WorkEnd.TheVariants.{NoSuch, Kept, Failed}
@@ -65,9 +66,9 @@ module _ {F : Type 0} where
             ∙ ap (λ t. without ask old.questions ++ cond (not t) (q ∷ []) []) (eq-eqb ask ask refl) ∙ append-nil (without ask old.questions) ∙ same;
       }
 
-  pub opens-read : {old one : EngineView F} {by : By} {question : Question} {told : Reply} {ask : ℕ} (hand : Option (ReadParts F)) → told ≡ reply.Asked ask → KnowsQuestions old → Adds old one (plain_note by (act.Ask (asked_number told) question false) told) → IsAskedOf old one by question false told hand → OpensRead old one by question ask
+  pub opens-read : {old one : EngineView F} {by : By} {question : Question} {told : Reply} {ask : ℕ} (hand : Option (ReadParts F)) → told ≡ reply.Asked ask → KnowsQuestions old → Adds old one (ask_note by question false told) → IsAskedOf old one by question false told hand → OpensRead old one by question ask
   opens-read {old} {one} {by} {question} {told} {ask} hand is knows adds asked =
-      asked-opens old one by question ask hand knows (subst (λ t. Adds old one (plain_note by (act.Ask (asked_number t) question false) t)) is adds) (subst (λ t. IsAskedOf old one by question false t hand) is asked)
+      asked-opens old one by question ask hand knows (subst (λ t. Adds old one (ask_note by question false t)) is adds) (subst (λ t. IsAskedOf old one by question false t hand) is asked)
 
   -- The question isn't opened.
   off-questions : (g : Grounds F) (new : List (Asking F)) (by : By) (question : Question) (told : Reply) (hand : Option (ReadParts F)) → IsAsked g new by question false told hand → ((n : ℕ) → told ≡ reply.Asked n → ⊥) → new ≡ g.questions
@@ -77,7 +78,7 @@ module _ {F : Type 0} where
   off-questions g new by question (reply.Asked ask) hand is off = absurd (off ask refl)
   off-questions g new by question _ _ is off = absurd is
 
-  pub refused-takes : {old new : EngineView F} {by : By} {question : Question} {told : Reply} (hand : Option (ReadParts F)) → ((n : ℕ) → told ≡ reply.Asked n → ⊥) → Adds old new (plain_note by (act.Ask (asked_number told) question false) told) → IsAskedOf old new by question false told hand → TakesLine old new (Some by) (cmd.Ask question false)
+  pub refused-takes : {old new : EngineView F} {by : By} {question : Question} {told : Reply} (hand : Option (ReadParts F)) → ((n : ℕ) → told ≡ reply.Asked n → ⊥) → Adds old new (ask_note by question false told) → IsAskedOf old new by question false told hand → TakesLine old new (Some by) (cmd.Ask question false)
   refused-takes {old} {new} {by} {question} {told} hand off adds is =
       takes-alike (grows-one adds) refl
       (λ r at. (asked_number told, record { same_by = refl; same_act = refl }, off-asked told off))
@@ -91,7 +92,7 @@ module _ {F : Type 0} where
       same
 
   -- The result is kept, and a settle answers it.
-  pub answered-takes : {old one two new : EngineView F} {by : By} {question : Question} {ask : ℕ} {told : Reply} → OpensRead old one by question ask → EndsWork (question_of ask one.questions) Kept one two → Adds two new (plain_note by (settle_act ask (question_of ask two.questions)) told) → told ≡ settle_reply (question_of ask two.questions) → new.questions ≡ settle_leaves ask (question_of ask two.questions) two.questions → TakesLine old new (Some by) (cmd.Ask question false)
+  pub answered-takes : {old one two new : EngineView F} {by : By} {question : Question} {ask : ℕ} {told : Reply} → OpensRead old one by question ask → EndsWork (question_of ask one.questions) Kept one two → Adds two new (settle_note by ask two.questions told) → told ≡ settle_reply (question_of ask two.questions) → new.questions ≡ after_settle ask two.questions → TakesLine old new (Some by) (cmd.Ask question false)
   answered-takes {old} {one} {two} {new} {by} {question} {ask} opens ends adds says left =
       let q : Asking F = asking ask by false opens.given fresh_story None in
       let k : Keeps q one two = subst (λ o. EndsWork o Kept one two) opens.there ends in

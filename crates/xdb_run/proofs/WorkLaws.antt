@@ -6,7 +6,7 @@ use Rattle.std.proofs.lemmas.List.Elements.{All-filter, All-push}
 use Rattle.std.proofs.lemmas.List.Folds.{list_any-append}
 use Rattle.xdb_lists.proofs.PlaceLaws.{under-number, under-all, all-placed}
 use Rattle.xdb_steps.specs.Notes.{plain_note}
-use Rattle.xdb_engine.specs.Questions.{Asking, question_of, with_story}
+use Rattle.xdb_engine.specs.Questions.{Asking, HasNumber, question_of, with_story}
 use Rattle.xdb_engine.specs.View.{EngineView, plain_of, Adds}
 use Rattle.xdb_plain.specs.Counts.{is_among}
 use Rattle.xdb_plain.specs.Runs.{is_no_such}
@@ -16,7 +16,7 @@ use Rattle.xdb_plain.specs.declared.reply.Reply.{Reply}
 use Rattle.xdb_plain.specs.declared.reply.Reply.TheVariants as reply
 use Rattle.xdb_plain.specs.declared.script.Cmd.TheVariants as cmd
 use Rattle.xdb_read.specs.declared.parts.ReadDone.{ReadDone}
-use Rattle.xdb_run.specs.Running.{Awaits, HasNumber, KnowsQuestions, TakesLine}
+use Rattle.xdb_run.specs.Running.{Awaits, KnowsQuestions, TakesLine}
 use Rattle.xdb_run.specs.Working.{EndsWork}
 use Rattle.xdb_run.specs.declared.works.WorkEnd.{WorkEnd}
 use Rattle.xdb_run.specs.declared.works.WorkEnd.TheVariants.{NoSuch, Kept, Failed}

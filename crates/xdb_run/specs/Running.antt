@@ -1,8 +1,7 @@
 -- How far an engine has come in the run of a script.
 use Rattle.std.specs.Prelude.{◌≡◌, ◌≤◌, ℕ, true, List, ◌++◌, reverse, map, All, Option, is_some}
-use Rattle.xdb_engine.specs.Questions.{Asking, plain_question}
+use Rattle.xdb_engine.specs.Questions.{Asking, HasNumber, plain_question}
 use Rattle.xdb_engine.specs.View.{EngineView, plain_of}
-use Rattle.xdb_steps.specs.Parts.Asks.{IsNumbered}
 use Rattle.xdb_plain.specs.Counts.{is_among}
 use Rattle.xdb_plain.specs.Runs.{Run, first_run, run_after, run_over, IsBlock, AreBlocks}
 use Rattle.xdb_plain.specs.State.{opening}
@@ -48,10 +47,6 @@ module _ {F : Type 0} where
     pub lines : List Line
     pub whole : script ≡ lines ++ reverse left
     pub has : HasTakenLines lines e
-
-  -- a client's question, with a number that was given
-  abbrev pub HasNumber : ℕ → Asking F → Type 0
-  HasNumber asked q = IsNumbered asked (plain_question q)
 
   -- The open questions are those of the plain state, with numbers that were given.
   pub record KnowsQuestions (e : EngineView F) : Type 0 where

@@ -3,7 +3,7 @@ use Rattle.std.specs.Prelude.{◌≡◌, true, Option, Some, None, Result, is_so
 use Rattle.std.specs.declared.alloc.AllocError.{AllocError}
 use Rattle.xdb_steps.specs.Notes.{plain_note}
 use Rattle.xdb_engine.specs.Ends.{failure_act, failure_by}
-use Rattle.xdb_engine.specs.Questions.{Asking, without, put, with_story}
+use Rattle.xdb_engine.specs.Questions.{Asking, with_result, without}
 use Rattle.xdb_engine.specs.View.{EngineView, Adds, with_questions}
 use Rattle.xdb_plain.specs.declared.reply.Reply.TheVariants.{Memory}
 use Rattle.xdb_read.specs.Fits.{ReadFits}
@@ -23,7 +23,7 @@ module _ {F : Type 0} where
   pub record Keeps (q : Asking F) (old new : EngineView F) : Type 0 where
     pub waits : q.kept ≡ None
     pub done : ReadDone
-    pub keeps : new ≡ with_questions old (put (with_story q q.story (Some done)) old.questions)
+    pub keeps : new ≡ with_questions old (with_result q done old.questions)
     pub fits : ReadFits q.given done
 
   -- An allocation failed in the work on a question that had no result: a note tells so, and the question is gone.
