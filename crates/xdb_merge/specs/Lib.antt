@@ -1,0 +1,5 @@
+-- What a merged cursor goes over, how it moves, and how its pairs are found.
+pub mod Layers
+pub mod Merge
+pub mod Steps
+pub mod Search

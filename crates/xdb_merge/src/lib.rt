@@ -1,0 +1,8 @@
+//! A cursor over what memtables and tables have together.
+#![tactic(auto)]
+
+mod edge;
+mod layer;
+mod search;
+
+pub use std::alloc::AllocError as Memory;
