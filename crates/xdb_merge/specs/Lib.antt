@@ -3,3 +3,4 @@ pub mod Layers
 pub mod Merge
 pub mod Steps
 pub mod Search
+pub mod Sources

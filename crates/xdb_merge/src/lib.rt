@@ -4,5 +4,6 @@
 mod edge;
 mod layer;
 mod search;
+mod source;
 
 pub use std::alloc::AllocError as Memory;
