@@ -31,7 +31,7 @@ spans_in-append [] d = refl
 spans_in-append (entry key seq value ∷ c) d = spans_in-append c d
 spans_in-append (span t ∷ c) d = ap (λ x. t ∷ x) (spans_in-append c d)
 
-entries_are : (ls : List Parts) → entries_in (content_in ls) ≡ map entry_of (entries_of ls)
+pub entries_are : (ls : List Parts) → entries_in (content_in ls) ≡ map entry_of (entries_of ls)
 entries_are [] = refl
 entries_are (l ∷ ls) =
     entries_in-append (content_of l.entries l.spans) (content_in ls)

@@ -4,3 +4,5 @@ mod LayerLaws
 mod DecideLaws
 mod PairLaws
 mod SearchLaws
+mod LoadLaws
+mod SourceLaws

@@ -4,3 +4,4 @@ pub mod Merge
 pub mod Steps
 pub mod Search
 pub mod Sources
+pub mod Moves

@@ -1,12 +1,17 @@
 -- What is kept of a view, and the layers that a merged cursor searches.
-use Rattle.std.specs.Prelude.{◌≡◌, ℕ, true, List}
+use Rattle.std.specs.Prelude.{◌≡◌, ℕ, true, false, List, []}
 use Rattle.xdb_key.specs.Entries.{Tombstone}
 use Rattle.xdb_mem.specs.Parts.{Parts}
 use Rattle.xdb_rangedel.specs.Content.{newest}
 use Rattle.xdb_rangedel.specs.Members.{SameMembers}
-use Rattle.xdb_table_r.specs.Cursors.{Walk}
+use Rattle.xdb_table_r.specs.Cursors.{Walk, walk}
+use Rattle.xdb_table_r.specs.Views.{Shown}
 use Rattle.xdb_merge.specs.Layers.{entries_of, content_in}
 use Rattle.xdb_merge.specs.Merge.{layer_of}
+
+-- a cursor of a view that isn't read yet
+abbrev pub unread : {F : Type 0} → Shown F → Walk F
+unread v = walk v false [] 0
 
 -- once the points are read, the spans are there
 abbrev pub HasSpans : {F : Type 0} → Walk F → List Tombstone → Type 0

@@ -43,7 +43,7 @@ module _ {F : Type 0} where
   abbrev pub IsFirstDefect : (F → Option (List ℕ)) → ℕ → ℕ → List (Shown F) → Type 0
   IsFirstDefect bytes backing at [] = ⊥
   IsFirstDefect bytes backing at (v ∷ vs) =
-      ((backing ≡ v.table.backing) × IfSome (bytes v.table.file) (λ b. view_at v b ≡ Err at))
+      IfSome (bytes v.table.file) (λ b. (backing ≡ v.table.backing) × (view_at v b ≡ Err at))
       ⊎ (IfSome (bytes v.table.file) (λ b. (ps : List Point) × (view_at v b ≡ Ok ps)) × IsFirstDefect bytes backing at vs)
 
   -- a fault and want of memory may come at any place

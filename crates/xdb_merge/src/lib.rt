@@ -3,7 +3,10 @@
 
 mod edge;
 mod layer;
+mod merged;
+mod moves;
 mod search;
 mod source;
 
+pub use merged::Merged;
 pub use std::alloc::AllocError as Memory;

@@ -1,10 +1,9 @@
 //! A view that a merged cursor goes over.
-ghost use Rattle.std.specs.Prelude.{◌≡◌, true, false, [], ◌∷◌, IfOk, OnOk, OnErr, IfErr, IsErrOf};
+ghost use Rattle.std.specs.Prelude.{◌≡◌, true, [], ◌∷◌, IfOk, OnOk, OnErr, IfErr, IsErrOf};
 ghost use Rattle.std.specs.List.{AllByRecursion};
 ghost use Rattle.xdb_device.specs.Counted.{Counted};
-ghost use Rattle.xdb_table_r.specs.Cursors.{walk};
 ghost use Rattle.xdb_merge.specs.Steps.{ArePaired, AreRead, IsLater, IsLoaded, NamesDefect, views};
-ghost use Rattle.xdb_merge.specs.Sources.{ShowsLayer, AreAlike};
+ghost use Rattle.xdb_merge.specs.Sources.{unread, ShowsLayer, AreAlike};
 ghost use Rattle.xdb_merge.specs.Merge.{layers};
 
 use crate::layer::Layer;
@@ -36,7 +35,7 @@ impl<F: FileRef> Model for Source<F> {
 impl<F: FileRef> Source<F> {
     /// Nothing is read yet.
     pub fn new(alloc: Global, view: View<F>) -> Result<Self, AllocError>
-        ensures { IfOk result (λ made. made ≡ walk view false [] 0) }
+        ensures { IfOk result (λ made. made ≡ unread view) }
     {
         let spans = Fragments::from_spans(alloc, &[])?;
         Ok(Source {
