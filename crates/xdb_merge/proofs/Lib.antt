@@ -6,3 +6,4 @@ mod PairLaws
 mod SearchLaws
 mod LoadLaws
 mod SourceLaws
+mod MoveLaws
