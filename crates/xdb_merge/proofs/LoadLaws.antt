@@ -58,21 +58,21 @@ written n now old len same =
     ap (λ xs. take n (now ++ xs)) all ∙ ap (take n) (append-nil now) ∙ take_all n now (omega arith)
 
 module _ {F : Type 0} where
-  later_refl : (w : Walk F) → IsLater w w
-  later_refl w = record { view = refl; read = λ h. h; kept = λ h. refl }
+  later_refl : (bytes : F → Option (List ℕ)) (w : Walk F) → IsLater bytes w w
+  later_refl bytes w = record { view = refl; place = refl; read = λ h. h; kept = λ h. refl; points = λ unread h. absurd (false≢true (sym unread ∙ h)) }
 
-  paired_refl : (ws : List (Walk F)) → ArePaired IsLater ws ws
-  paired_refl [] = tt
-  paired_refl (w ∷ ws) = (later_refl w, paired_refl ws)
+  paired_refl : (bytes : F → Option (List ℕ)) (ws : List (Walk F)) → ArePaired (IsLater bytes) ws ws
+  paired_refl bytes [] = tt
+  paired_refl bytes (w ∷ ws) = (later_refl bytes w, paired_refl bytes ws)
 
   -- the first ones are loaded, and the rest is as it was
   pub record LoadsSoFar (bytes : F → Option (List ℕ)) (old now : List (Walk F)) (i : ℕ) : Type 0 where
-    pub later : ArePaired IsLater old now
+    pub later : ArePaired (IsLater bytes) old now
     pub done : AllByRecursion (IsLoaded bytes) (take i now)
     pub rest : drop i now ≡ drop i old
 
   loads_none : (bytes : F → Option (List ℕ)) (ws : List (Walk F)) → LoadsSoFar bytes ws ws 0
-  loads_none bytes ws = record { later = paired_refl ws; done = tt; rest = refl }
+  loads_none bytes ws = record { later = paired_refl bytes ws; done = tt; rest = refl }
 
   pub loads_start : (bytes : F → Option (List ℕ)) (ws now : List (Walk F)) → now ≡ ws → LoadsSoFar bytes ws now 0
   loads_start bytes ws now is = subst (λ xs. LoadsSoFar bytes ws xs 0) (sym is) (loads_none bytes ws)
@@ -80,11 +80,11 @@ module _ {F : Type 0} where
   same_at : (bytes : F → Option (List ℕ)) (old now : List (Walk F)) (i : ℕ) (d : Walk F) → LoadsSoFar bytes old now i → get_or now i d ≡ get_or old i d
   same_at bytes old now i d so_far = sym (at_drop now i d) ∙ ap (λ ws. get_or ws 0 d) so_far.rest ∙ at_drop old i d
 
-  pub loads_later : (bytes : F → Option (List ℕ)) (old now : List (Walk F)) (i : ℕ) (d new : Walk F) → LoadsSoFar bytes old now i → i < length now → IsLater (get_or now i d) new → ArePaired IsLater old (slice_set now i new)
+  pub loads_later : (bytes : F → Option (List ℕ)) (old now : List (Walk F)) (i : ℕ) (d new : Walk F) → LoadsSoFar bytes old now i → i < length now → IsLater bytes (get_or now i d) new → ArePaired (IsLater bytes) old (slice_set now i new)
   loads_later bytes old now i d new so_far inside later =
-      paired_set IsLater old now i new d so_far.later inside (subst (λ w. IsLater w new) (same_at bytes old now i d so_far) later)
+      paired_set (IsLater bytes) old now i new d so_far.later inside (subst (λ w. IsLater bytes w new) (same_at bytes old now i d so_far) later)
 
-  pub loads_more : (bytes : F → Option (List ℕ)) (old now : List (Walk F)) (i : ℕ) (d new : Walk F) → LoadsSoFar bytes old now i → i < length now → IsLater (get_or now i d) new → IsLoaded bytes new → LoadsSoFar bytes old (slice_set now i new) (i + 1)
+  pub loads_more : (bytes : F → Option (List ℕ)) (old now : List (Walk F)) (i : ℕ) (d new : Walk F) → LoadsSoFar bytes old now i → i < length now → IsLater bytes (get_or now i d) new → IsLoaded bytes new → LoadsSoFar bytes old (slice_set now i new) (i + 1)
   loads_more bytes old now i d new so_far inside later loaded = record {
     later = loads_later bytes old now i d new so_far inside later;
     done = subst (AllByRecursion (IsLoaded bytes)) (sym (take_more_set now i new inside)) (all_more (IsLoaded bytes) (take i now) new so_far.done loaded);
@@ -94,11 +94,11 @@ module _ {F : Type 0} where
   -- where all was read, this one was
   pub read_at : (bytes : F → Option (List ℕ)) (old now : List (Walk F)) (i : ℕ) (d : Walk F) → LoadsSoFar bytes old now i → i < length now → AreRead old → (get_or now i d).read ≡ true
   read_at bytes old now i d so_far inside read =
-      let within : i < length old = omega (arith, paired_length IsLater old now so_far.later) in
+      let within : i < length old = omega (arith, paired_length (IsLater bytes) old now so_far.later) in
       ap (λ w. w.read) (same_at bytes old now i d so_far) ∙ all_at (λ w. w.read ≡ true) old i d read within
 
   pub loads_length : (bytes : F → Option (List ℕ)) (old now : List (Walk F)) (i : ℕ) → LoadsSoFar bytes old now i → length now ≡ length old
-  loads_length bytes old now i so_far = sym (paired_length IsLater old now so_far.later)
+  loads_length bytes old now i so_far = sym (paired_length (IsLater bytes) old now so_far.later)
 
   pub read_one : (ws : List (Walk F)) (i : ℕ) (w : Walk F) → AreRead ws → i < length ws → w ≡ get_or ws i w → w.read ≡ true
   read_one ws i w read inside is = ap (λ x. x.read) is ∙ all_at (λ x. x.read ≡ true) ws i w read inside
@@ -117,12 +117,12 @@ module _ {F : Type 0} where
   one_defect bytes v ReadFault h = tt
   one_defect bytes v Memory h = tt
 
-  reads_well : (bytes : F → Option (List ℕ)) (old now : Walk F) → IsLater old now → IsLoaded bytes now → IfSome (bytes old.view.table.file) (λ b. (ps : List Point) × (view_at old.view b ≡ Ok ps))
+  reads_well : (bytes : F → Option (List ℕ)) (old now : Walk F) → IsLater bytes old now → IsLoaded bytes now → IfSome (bytes old.view.table.file) (λ b. (ps : List Point) × (view_at old.view b ≡ Ok ps))
   reads_well bytes old now later loaded =
       subst (λ (v : Shown F). IfSome (bytes v.table.file) (λ b. (ps : List Point) × (view_at v b ≡ Ok ps))) later.view
       (some_points (bytes now.view.table.file) now.points (view_at now.view) loaded.points.told)
 
-  defect_at : (bytes : F → Option (List ℕ)) (backing at : ℕ) (old now : List (Walk F)) (i : ℕ) (d : Walk F) → ArePaired IsLater old now → AllByRecursion (IsLoaded bytes) (take i now) → i < length old → IsFirstDefect bytes backing at ((get_or old i d).view ∷ []) → IsFirstDefect bytes backing at (views old)
+  defect_at : (bytes : F → Option (List ℕ)) (backing at : ℕ) (old now : List (Walk F)) (i : ℕ) (d : Walk F) → ArePaired (IsLater bytes) old now → AllByRecursion (IsLoaded bytes) (take i now) → i < length old → IsFirstDefect bytes backing at ((get_or old i d).view ∷ []) → IsFirstDefect bytes backing at (views old)
   defect_at bytes backing at [] now i d p done inside h = absurd (omega arith)
   defect_at bytes backing at (w ∷ ws) [] i d p done inside h = absurd p
   defect_at bytes backing at (w ∷ ws) (n ∷ ns) zero d p done inside h = elim h [
@@ -134,7 +134,7 @@ module _ {F : Type 0} where
 
   pub loads_defect : (bytes : F → Option (List ℕ)) (old now : List (Walk F)) (i : ℕ) (d : Walk F) (e : TableNo) → LoadsSoFar bytes old now i → i < length now → NamesDefect bytes ((get_or now i d).view ∷ []) e → NamesDefect bytes (views old) e
   loads_defect bytes old now i d (Damaged b at) so_far inside h =
-      defect_at bytes b at old now i d so_far.later so_far.done (omega (arith, paired_length IsLater old now so_far.later))
+      defect_at bytes b at old now i d so_far.later so_far.done (omega (arith, paired_length (IsLater bytes) old now so_far.later))
       (subst (λ (w : Walk F). IsFirstDefect bytes b at (w.view ∷ [])) (same_at bytes old now i d so_far) h)
   loads_defect bytes old now i d ReadFault so_far inside h = tt
   loads_defect bytes old now i d Memory so_far inside h = tt

@@ -1,5 +1,5 @@
 -- What a call of a merged cursor does: it reads the views that aren't read yet, and moves.
-use Rattle.std.specs.Prelude.{◌≡◌, ◌⊎◌, ℕ, true, List, [], ◌∷◌, map, Option, Some, None, Result, Ok, Err, IfOk, IfErr, OnOk, OnErr, IfSome}
+use Rattle.std.specs.Prelude.{◌≡◌, ◌⊎◌, ℕ, true, false, List, [], ◌∷◌, map, Option, Some, None, Result, Ok, Err, IfOk, IfErr, OnOk, OnErr, IfSome}
 use Rattle.std.specs.List.{AllByRecursion}
 use Rattle.xdb_key.specs.Entries.{Point}
 use Rattle.xdb_plain.specs.Answers.{landing, moved}
@@ -27,11 +27,13 @@ module _ {F : Type 0} where
   abbrev pub AreRead : List (Walk F) → Type 0
   AreRead ws = AllByRecursion (λ w. w.read ≡ true) ws
 
-  -- the view stays, and what is read stays so
-  pub record IsLater (old new : Walk F) : Type 0 where
+  -- the view and the place stay, and what is read stays so; what is newly read are the points of the view
+  pub record IsLater (bytes : F → Option (List ℕ)) (old new : Walk F) : Type 0 where
     pub view : new.view ≡ old.view
+    pub place : new.place ≡ old.place
     pub read : old.read ≡ true → new.read ≡ true
     pub kept : old.read ≡ true → new.points ≡ old.points
+    pub points : old.read ≡ false → new.read ≡ true → ArePointsOf bytes new.view new.points
 
   -- read, and its points are those of its view
   pub record IsLoaded (bytes : F → Option (List ℕ)) (w : Walk F) : Type 0 where
@@ -72,7 +74,7 @@ pub record IsStep {F : Type 0} (bytes : F → Option (List ℕ)) (step : Step) (
   pub mem : new.mem ≡ old.mem
   pub bounds : new.bounds ≡ old.bounds
   pub at : new.at ≡ old.at
-  pub later : ArePaired IsLater old.walks new.walks
+  pub later : ArePaired (IsLater bytes) old.walks new.walks
   pub loaded : OnOk result (AllByRecursion (IsLoaded bytes) new.walks)
   pub defect : IfErr result (NamesDefect bytes (views old.walks))
   pub moves : IfOk result (λ e. landing (answer_of e) new.place ≡ moved (pairs new) old.place step)

@@ -10,3 +10,6 @@ mod source;
 
 pub use merged::Merged;
 pub use std::alloc::AllocError as Memory;
+
+#[cfg(test)]
+mod tests;

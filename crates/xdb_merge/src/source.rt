@@ -49,7 +49,7 @@ impl<F: FileRef> Source<F> {
         ensures counted { Counted R.faults R.misses R.frame dev.old dev.new (IsErrOf result TableNo.ReadFault) }
         ensures told { R.told dev.new ≡ R.told dev.old }
         ensures alone { self.old.read ≡ true → dev.new ≡ dev.old }
-        ensures later { IsLater self.old self.new }
+        ensures later { IsLater F.bytes self.old self.new }
         ensures loaded { OnOk result (IsLoaded F.bytes self.new) }
         ensures defect { IfErr result (NamesDefect F.bytes (self.old.view ∷ [])) }
     {
@@ -78,7 +78,7 @@ pub fn load_all<F: FileRef, R: Reader<File = F>>(
     ensures counted { Counted R.faults R.misses R.frame dev.old dev.new (IsErrOf result TableNo.ReadFault) }
     ensures told { R.told dev.new ≡ R.told dev.old }
     ensures alone { AreRead sources.old.items → dev.new ≡ dev.old }
-    ensures later { ArePaired IsLater sources.old.items sources.new.items }
+    ensures later { ArePaired (IsLater F.bytes) sources.old.items sources.new.items }
     ensures read { OnOk result (AreRead sources.new.items) }
     ensures loaded { OnOk result (AllByRecursion (IsLoaded F.bytes) sources.new.items) }
     ensures defect { IfErr result (NamesDefect F.bytes (views sources.old.items)) }

@@ -26,7 +26,7 @@ returns-in_err-load-clause-later g c =
     let old = c.args.sources.now in
     let now = slice_set c.loop-source.source-items c.loop-source.source-index c.load.new.self in
     let same : length now ≡ length old.items = length-set c.loop-source.source-items c.loop-source.source-index c.load.new.self ∙ loads_length g.F.FileRef.bytes old.items c.loop-source.source-items c.loop-source.source-index c.loop-source.invariant.3 in
-    subst (ArePaired IsLater old.items) (sym (written old.len now old.items old.ok.0 same))
+    subst (ArePaired (IsLater g.F.FileRef.bytes) old.items) (sym (written old.len now old.items old.ok.0 same))
     (loads_later g.F.FileRef.bytes old.items c.loop-source.source-items c.loop-source.source-index c.source-item.result c.load.new.self c.loop-source.invariant.3 (omega arith) c.load.ensures.later)
 
 pub returns-in_err-load-clause-defect : goal.returns-in_err-load-clause-defect
@@ -51,7 +51,7 @@ returns-clause-alone g c = c.loop-source.invariant.2
 pub returns-clause-later : goal.returns-clause-later
 returns-clause-later g c =
     let old = c.args.sources.now in
-    subst (ArePaired IsLater old.items) (sym (written old.len c.loop-source.source-items old.items old.ok.0 (loads_length g.F.FileRef.bytes old.items c.loop-source.source-items c.loop-source.source-index c.loop-source.invariant.3))) c.loop-source.invariant.3.later
+    subst (ArePaired (IsLater g.F.FileRef.bytes) old.items) (sym (written old.len c.loop-source.source-items old.items old.ok.0 (loads_length g.F.FileRef.bytes old.items c.loop-source.source-items c.loop-source.source-index c.loop-source.invariant.3))) c.loop-source.invariant.3.later
 
 pub returns-clause-read : goal.returns-clause-read
 returns-clause-read g c =
