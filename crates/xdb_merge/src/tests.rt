@@ -16,18 +16,19 @@ use xdb_table_w::TableWriter;
 /// A key, a number, and a value of one byte; 0 stands for a delete.
 type Row = (u8, u32, u8);
 
-/// A range delete: its bounds and its number.
+/// Bounds, and the number of a range delete or of a view.
 type Cut = (u8, u8, u32);
 
-/// A table, and the bounds and the synthetic number of its view.
+/// A table and its view.
 #[derive(Clone, Copy)]
 struct Table {
     points: &'static [Row],
     spans: &'static [Cut],
-    lo: u8,
-    hi: u8,
-    synthetic: u32,
+    /// Its bounds and its synthetic number.
+    seen: Cut,
 }
+
+const WHOLE: Cut = (1, 255, 0);
 
 /// An operation in a memtable.
 #[derive(Clone, Copy)]
@@ -63,16 +64,6 @@ struct Case {
 
 const END: Row = (0, 0, 0);
 
-const fn whole(points: &'static [Row], spans: &'static [Cut]) -> Table {
-    Table {
-        points,
-        spans,
-        lo: 1,
-        hi: 255,
-        synthetic: 0,
-    }
-}
-
 /// a is set twice, b is deleted over a set, and c and d by a range, d before it is set.
 const PUTS: &[Put] = &[
     Put::Set(b'a', b'1'),
@@ -85,18 +76,41 @@ const PUTS: &[Put] = &[
 
 /// Keys of one table stand between those of the other, and both have c.
 const TWO: &[Table] = &[
-    whole(&[(b'a', 10, b'1'), (b'c', 11, b'3')], &[]),
-    whole(&[(b'b', 5, b'2'), (b'c', 4, b'9'), (b'd', 6, b'4')], &[]),
+    Table {
+        points: &[(b'a', 10, b'1'), (b'c', 11, b'3')],
+        spans: &[],
+        seen: WHOLE,
+    },
+    Table {
+        points: &[(b'b', 5, b'2'), (b'c', 4, b'9'), (b'd', 6, b'4')],
+        spans: &[],
+        seen: WHOLE,
+    },
 ];
 
 /// A delete of b and one of the keys from c to e stand over the last table, and c is set again.
 const OVER: &[Table] = &[
-    whole(&[(b'b', 20, 0), (b'c', 22, b'7')], &[]),
-    whole(&[], &[(b'c', b'e', 21)]),
-    whole(
-        &[(b'a', 1, b'1'), (b'b', 2, b'2'), (b'c', 3, b'3'), (b'd', 4, b'4'), (b'e', 5, b'5')],
-        &[],
-    ),
+    Table {
+        points: &[(b'b', 20, 0), (b'c', 22, b'7')],
+        spans: &[],
+        seen: WHOLE,
+    },
+    Table {
+        points: &[],
+        spans: &[(b'c', b'e', 21)],
+        seen: WHOLE,
+    },
+    Table {
+        points: &[
+            (b'a', 1, b'1'),
+            (b'b', 2, b'2'),
+            (b'c', 3, b'3'),
+            (b'd', 4, b'4'),
+            (b'e', 5, b'5'),
+        ],
+        spans: &[],
+        seen: WHOLE,
+    },
 ];
 
 /// The first table's numbers are all 7, so its points stand over its span, and over what has lesser numbers.
@@ -104,11 +118,13 @@ const ONE_NUMBER: &[Table] = &[
     Table {
         points: &[(b'a', 1, b'1'), (b'b', 3, b'3'), (b'b', 2, b'2'), (b'z', 4, b'4')],
         spans: &[(b'a', b'y', 5)],
-        lo: b'a',
-        hi: b'x',
-        synthetic: 7,
+        seen: (b'a', b'x', 7),
     },
-    whole(&[(b'a', 6, b'6'), (b'c', 6, b'6'), (b'd', 8, b'8'), (b'z', 6, b'6')], &[]),
+    Table {
+        points: &[(b'a', 6, b'6'), (b'c', 6, b'6'), (b'd', 8, b'8'), (b'z', 6, b'6')],
+        spans: &[],
+        seen: WHOLE,
+    },
 ];
 
 const CASES: [Case; 9] = [
@@ -347,8 +363,8 @@ fn view(
 ) -> Result<View<MemFile>, Fail> {
     let bytes = file(alloc, table)?;
     let opened = opened(alloc, dev, num, &bytes)?;
-    let (lo, hi) = bounds(alloc, table.lo, table.hi)?;
-    Ok(View::new(opened, lo, hi, u64::from(table.synthetic)))
+    let (lo, hi) = bounds(alloc, table.seen.0, table.seen.1)?;
+    Ok(View::new(opened, lo, hi, u64::from(table.seen.2)))
 }
 
 /// The views of tables, whose files have the numbers from 1 on.
@@ -361,7 +377,7 @@ fn views(alloc: Global, dev: &mut MemDevice, tables: &[Table]) -> Result<Vec<Vie
     Ok(views)
 }
 
-fn put(alloc: Global, batch: &mut Batch, put: Put) -> Result<(), Fail> {
+fn add_put(alloc: Global, batch: &mut Batch, put: Put) -> Result<(), Fail> {
     match put {
         Put::Set(byte, value) => {
             let value = vec![in alloc; value]?;
@@ -376,7 +392,7 @@ fn put(alloc: Global, batch: &mut Batch, put: Put) -> Result<(), Fail> {
 fn batch(alloc: Global, puts: &[Put]) -> Result<Batch, Fail> {
     let mut batch = Batch::new(alloc);
     for one in puts {
-        put(alloc, &mut batch, *one)?;
+        add_put(alloc, &mut batch, *one)?;
     }
     Ok(batch)
 }
