@@ -1,12 +1,11 @@
 -- What is found in several layers is found in one after the other.
-use Rattle.std.proofs.Common.{◌≡◌, ℕ, ◌+◌, ◌*◌, ◌<◌, ◌≤◌, Bool, true, false, ◌&&◌, cond, ltb, List, [], ◌∷◌, ◌++◌, length, get_or, take, map, Option, Some, None, IfSome, IsTrue, inl, inr, refl, sym, ap, ◌∙◌, subst, append-nil, arith}
+use Rattle.std.proofs.Common.{◌≡◌, ℕ, ◌+◌, ◌*◌, ◌<◌, ◌≤◌, Bool, true, false, cond, ltb, List, [], ◌∷◌, ◌++◌, length, get_or, take, map, Option, Some, None, IfSome, inl, inr, refl, sym, ap, ◌∙◌, subst, append-nil, arith}
 use Rattle.std.proofs.lemmas.Bool.{cases_Bool, cases_lt, lt-ltb, le-ltb, false≢true}
 use Rattle.std.proofs.lemmas.Grind.{flat_map-append}
 use Rattle.std.proofs.lemmas.List.{map-append, take_more, take_all}
 use Rattle.std.specs.List.{flat_map, find}
 use Rattle.std.specs.Option.{option_map}
-use Rattle.xdb_key.specs.Entries.{Point, Tombstone}
-use Rattle.xdb_key.specs.Order.{is_upto}
+use Rattle.xdb_key.specs.Entries.{Point}
 use Rattle.xdb_key.proofs.OrderLaws.{upto_trans, upto_from_below}
 use Rattle.xdb_mem.specs.Parts.{Parts}
 use Rattle.xdb_rangedel.specs.Content.{Mark, mark, rank, here, is_seen, newer, newest, entry_of}
@@ -17,7 +16,7 @@ use Rattle.xdb_rangedel.proofs.FragmentLaws.{All-at_Has, AllPairs-head, AllPairs
 use Rattle.xdb_rangedel.proofs.MemberLaws.{Has-append_left, Has-append_right, Has-append_cases, Has-from_map}
 use Rattle.xdb_rangedel.proofs.NewestLaws.{newer-stays, newest-append, newest-Some, mark_at-seen, mark_at-unseen, seen-here, same_key-tells}
 use Rattle.xdb_merge.specs.Layers.{IsAhead, AreSorted, entries_of, spans_of}
-use Rattle.xdb_merge.specs.Search.{forwards, backwards, IsNearest, IsNearestKey, nearer, newer_entry, IsNewest, first_seen}
+use Rattle.xdb_merge.specs.Search.{forwards, backwards, IsNearest, nearer, newer_entry, IsNewest, first_seen}
 use Rattle.xdb_merge.proofs.SortedLaws.{below-or_upto}
 
 -- ---- one layer more

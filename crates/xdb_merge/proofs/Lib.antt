@@ -7,3 +7,4 @@ mod SearchLaws
 mod LoadLaws
 mod SourceLaws
 mod MoveLaws
+mod ViewLaws

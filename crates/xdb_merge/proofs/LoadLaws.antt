@@ -1,5 +1,5 @@
 -- Views are read one after the other, up to the first that has a defect.
-use Rattle.std.proofs.Common.{◌≡◌, ℕ, zero, suc, ◌+◌, ◌<◌, ◌≤◌, Bool, true, List, [], ◌∷◌, ◌++◌, length, get_or, take, drop, map, Option, Some, None, IfSome, Result, Ok, Err, IsErr, IsErrOf, IsErrAnd, IfErr, inl, inr, ◌⊎◌, slice_set, refl, sym, ap, ◌∙◌, subst, arith}
+use Rattle.std.proofs.Common.{◌≡◌, ℕ, zero, suc, ◌+◌, ◌<◌, ◌≤◌, true, List, [], ◌∷◌, ◌++◌, length, get_or, take, drop, Option, Some, None, IfSome, Result, Ok, Err, IsErr, IsErrOf, IsErrAnd, IfErr, inl, inr, slice_set, refl, sym, ap, ◌∙◌, subst, arith}
 use Rattle.std.proofs.lemmas.Bool.{false≢true}
 use Rattle.std.proofs.lemmas.List.{take_more_set, take_all, drop_all, append-nil, drop-set-lt, drop-drop, get_or-drop}
 use Rattle.std.specs.List.{AllByRecursion}

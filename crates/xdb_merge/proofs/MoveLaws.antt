@@ -1,5 +1,5 @@
 -- What a search finds is what the step of a cursor leads to.
-use Rattle.std.proofs.Common.{◌≡◌, ℕ, Bool, true, false, ◌&&◌, cond, List, [], ◌∷◌, Option, Some, None, IfSome, Result, Ok, Err, IfOk, inl, inr, refl, sym, ap, ◌∙◌, subst}
+use Rattle.std.proofs.Common.{◌≡◌, ℕ, Bool, true, List, [], ◌∷◌, Option, Some, None, IfSome, Result, Ok, Err, IfOk, inl, inr, refl, sym, ap, ◌∙◌, subst}
 use Rattle.std.proofs.lemmas.Bool.{cases_Bool, and_parts}
 use Rattle.std.specs.Borrow.{Bor}
 use Rattle.std.specs.FinMap as finite
@@ -13,7 +13,7 @@ use Rattle.xdb_plain.specs.Answers.{Landing, landing, first_of, last_of, at_or_a
 use Rattle.xdb_plain.specs.declared.question.Place.{Place}
 use Rattle.xdb_plain.specs.declared.question.Place.TheVariants.{Before, On, After}
 use Rattle.xdb_plain.specs.declared.question.Step.{Step}
-use Rattle.xdb_merge.specs.Layers.{content_in}
+use Rattle.xdb_merge.specs.Layers.{content_of_layers}
 use Rattle.xdb_merge.specs.Merge.{pairs_of}
 use Rattle.xdb_merge.specs.Moves.{IsLanded}
 use Rattle.xdb_merge.specs.Search.{is_from, is_before}
@@ -32,11 +32,11 @@ filter_idle t h (x ∷ xs) pass = elim (cases_Bool (h x)) [
 
 module _ (ls : List Parts) (r : Bounds) (at : ℕ) where
   from_start : filter (λ pair. is_upto r.lo pair.0) (pairs_of ls r at) ≡ pairs_of ls r at
-  from_start = filter_idle (λ pair. is_upto r.lo pair.0) (λ pair. holds r pair.0) (finite.entries (image (content_in ls) at))
+  from_start = filter_idle (λ pair. is_upto r.lo pair.0) (λ pair. holds r pair.0) (finite.entries (image (content_of_layers ls) at))
       (λ pair h. (and_parts (is_upto r.lo pair.0) (is_below pair.0 r.hi) h).0)
 
   to_end : filter (λ pair. is_below pair.0 r.hi) (pairs_of ls r at) ≡ pairs_of ls r at
-  to_end = filter_idle (λ pair. is_below pair.0 r.hi) (λ pair. holds r pair.0) (finite.entries (image (content_in ls) at))
+  to_end = filter_idle (λ pair. is_below pair.0 r.hi) (λ pair. holds r pair.0) (finite.entries (image (content_of_layers ls) at))
       (λ pair h. (and_parts (is_upto r.lo pair.0) (is_below pair.0 r.hi) h).1)
 
   pub next-before : (place : Place) (lo : Bor (List ℕ)) (o : Option (List ℕ × List ℕ)) → place ≡ Before → lo.now ≡ r.lo → o ≡ first_of (filter (λ pair. is_from (At lo) pair.0) (pairs_of ls r at)) → at_or_after o ≡ next_from (pairs_of ls r at) place
@@ -55,14 +55,14 @@ module _ (ls : List Parts) (r : Bounds) (at : ℕ) where
       ∙ ap (prev_from (pairs_of ls r at)) (sym is)
 
   -- the entry that was found, and the place that goes with it
-  pub landed_by : {E : Type 0} (res : Result (Option Point × Place) E) (old : Place) (step : Step) (o : Option Point) (l : Landing) → l ≡ moved (pairs_of ls r at) old step → IfSome o (Decides (content_in ls) at) → IfOk res (λ x. x.0 ≡ o) → IfOk res (λ x. landing (answer_of x.0) x.1 ≡ l) → IfOk res (λ x. IsLanded ls r at old step x.0 x.1)
+  pub landed_by : {E : Type 0} (res : Result (Option Point × Place) E) (old : Place) (step : Step) (o : Option Point) (l : Landing) → l ≡ moved (pairs_of ls r at) old step → IfSome o (Decides (content_of_layers ls) at) → IfOk res (λ x. x.0 ≡ o) → IfOk res (λ x. landing (answer_of x.0) x.1 ≡ l) → IfOk res (λ x. IsLanded ls r at old step x.0 x.1)
   landed_by (Ok x) old step o l is decides same lands = record {
     moves = lands ∙ is;
-    decides = subst (λ y. IfSome y (Decides (content_in ls) at)) (sym same) decides;
+    decides = subst (λ y. IfSome y (Decides (content_of_layers ls) at)) (sym same) decides;
   }
   landed_by (Err e) old step o l is decides same lands = tt
 
-some-decides : (ls ms : List Parts) (at : ℕ) (o : Option Point) → AreAlike ls ms → IfSome o (Decides (content_in ls) at) → IfSome o (Decides (content_in ms) at)
+some-decides : (ls ms : List Parts) (at : ℕ) (o : Option Point) → AreAlike ls ms → IfSome o (Decides (content_of_layers ls) at) → IfSome o (Decides (content_of_layers ms) at)
 some-decides ls ms at None alike h = tt
 some-decides ls ms at (Some p) alike h = alike_decides ls ms at p alike h
 

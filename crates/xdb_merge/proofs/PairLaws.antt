@@ -1,6 +1,6 @@
 -- The first and the last pair of a sorted list whose key passes a test, by what is found in the list.
-use Rattle.std.proofs.Common.{◌≡◌, ℕ, Bool, true, false, ◌&&◌, cond, List, [], ◌∷◌, Option, Some, None, inl, inr, ◌⊎◌, refl, sym, ap, ◌∙◌, subst}
-use Rattle.std.proofs.lemmas.Bool.{cases_Bool, false≢true, and_parts, and_left}
+use Rattle.std.proofs.Common.{◌≡◌, ℕ, Bool, true, false, cond, List, [], ◌∷◌, Option, Some, None, inl, inr, refl, sym, ap, ◌∙◌}
+use Rattle.std.proofs.lemmas.Bool.{cases_Bool, false≢true, and_parts}
 use Rattle.std.proofs.lemmas.Option.{same_Some, none-some}
 use Rattle.std.specs.FinMap as finite
 use Rattle.std.specs.FinMap.Entries as entries_of
@@ -13,11 +13,10 @@ use Rattle.xdb_key.proofs.OrderLaws.{key_exact, below-itself}
 use Rattle.xdb_laws.specs.Image.{image}
 use Rattle.xdb_laws.proofs.ImageLaws.{image-is}
 use Rattle.xdb_mem.specs.Parts.{Parts}
-use Rattle.xdb_plain.specs.Answers.{pairs_in, first_of, last_of}
-use Rattle.xdb_plain.specs.PlainMap.{PlainMap}
+use Rattle.xdb_plain.specs.Answers.{first_of, last_of}
 use Rattle.xdb_rangedel.specs.Content.{same_key}
 use Rattle.xdb_rangedel.proofs.NewestLaws.{same_key-tells, same_key-itself}
-use Rattle.xdb_merge.specs.Layers.{content_in}
+use Rattle.xdb_merge.specs.Layers.{content_of_layers}
 use Rattle.xdb_merge.specs.Merge.{pairs_of}
 use Rattle.xdb_merge.specs.Search.{value_in}
 use Rattle.xdb_merge.proofs.SortedLaws.{other_key}
@@ -145,12 +144,12 @@ last_passing t o (e ∷ es) k v s pass at behind = elim (cases_Bool (same_key k 
 
 found_pairs : (ls : List Parts) (r : Bounds) (at : ℕ) (k : List ℕ) → found k (pairs_of ls r at) ≡ value_in ls r at k
 found_pairs ls r at k =
-    find-where_key key_cmp (holds r) k (λ x e. ap (holds r) (sym (key_exact k x e))) (finite.entries (image (content_in ls) at))
-    ∙ ap (λ o. cond (holds r k) o None) (sym (finite.get-entries (image (content_in ls) at) k) ∙ image-is (content_in ls) at k)
+    find-where_key key_cmp (holds r) k (λ x e. ap (holds r) (sym (key_exact k x e))) (finite.entries (image (content_of_layers ls) at))
+    ∙ ap (λ o. cond (holds r k) o None) (sym (finite.get-entries (image (content_of_layers ls) at) k) ∙ image-is (content_of_layers ls) at k)
 
 sorted_pairs : (ls : List Parts) (r : Bounds) (at : ℕ) → sorted (pairs_of ls r at)
 sorted_pairs ls r at =
-    is-true _ (is_sorted-where_key key_cmp (holds r) (finite.entries (image (content_in ls) at)) (finite.entries_sorted (image (content_in ls) at)))
+    is-true _ (is_sorted-where_key key_cmp (holds r) (finite.entries (image (content_of_layers ls) at)) (finite.entries_sorted (image (content_of_layers ls) at)))
 
 pub first_is : (ls : List Parts) (r : Bounds) (at : ℕ) (t : List ℕ → Bool) (k v : List ℕ) → t k ≡ true → value_in ls r at k ≡ Some v → ((j : List ℕ) → t j ≡ true → is_below j k ≡ true → value_in ls r at j ≡ None) → Some (k, v) ≡ first_of (filter (λ pair. t pair.0) (pairs_of ls r at))
 first_is ls r at t k v pass value before =

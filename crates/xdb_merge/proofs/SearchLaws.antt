@@ -1,22 +1,22 @@
 -- A search goes on from key to key, as long as the keys that it passes have no value.
-use Rattle.std.proofs.Common.{◌≡◌, ℕ, ◌<◌, ◌≤◌, Bool, true, false, not, ◌&&◌, cond, List, [], ◌∷◌, length, Option, Some, None, inl, inr, ◌⊎◌, refl, sym, ap, ◌∙◌, subst, arith}
-use Rattle.std.proofs.lemmas.Bool.{cases_Bool, false≢true, true≢false, and_left, and_right, and_from}
+use Rattle.std.proofs.Common.{◌≡◌, ℕ, ◌<◌, ◌≤◌, Bool, true, false, cond, List, [], ◌∷◌, length, Option, Some, None, inl, inr, sym, ap, ◌∙◌, arith}
+use Rattle.std.proofs.lemmas.Bool.{cases_Bool, false≢true, and_left, and_right, and_from}
 use Rattle.std.specs.Borrow.{Bor}
 use Rattle.std.specs.List.{filter}
 use Rattle.xdb_key.specs.Bounds.{Bounds, holds}
 use Rattle.xdb_key.specs.Entries.{Point}
 use Rattle.xdb_key.specs.Order.{is_below, is_upto}
-use Rattle.xdb_key.proofs.OrderLaws.{upto-not_below, below-itself, upto-itself, below_upto, upto_below, upto_trans, upto_from_below, below_trans}
+use Rattle.xdb_key.proofs.OrderLaws.{below-itself, below_upto, upto_below, upto_trans, upto_from_below, below_trans}
 use Rattle.xdb_mem.specs.Parts.{Parts}
 use Rattle.xdb_plain.specs.Answers.{first_of, last_of}
 use Rattle.xdb_rangedel.specs.Content.{verdict, value_of}
 use Rattle.xdb_rangedel.specs.Members.{Has}
-use Rattle.xdb_merge.specs.Layers.{entries_of, content_in}
+use Rattle.xdb_merge.specs.Layers.{entries_of, content_of_layers}
 use Rattle.xdb_merge.specs.Merge.{pairs_of}
 use Rattle.xdb_merge.specs.Search.{is_from, is_before, edge_key, forwards, backwards, IsNearest, IsNearestKey, IsDecider, StartsIn, end_in, value_in, pair_of}
 use Rattle.xdb_merge.specs.declared.edge.Edge.{Edge}
 use Rattle.xdb_merge.specs.declared.edge.Edge.TheVariants.{At, Behind}
-use Rattle.xdb_merge.proofs.SortedLaws.{upto-or_below, below-or_upto, not_below_both, same_from_bounds, from_upto}
+use Rattle.xdb_merge.proofs.SortedLaws.{upto-or_below, not_below_both, same_from_bounds, from_upto}
 use Rattle.xdb_merge.proofs.DecideLaws.{no_entry}
 use Rattle.xdb_merge.proofs.PairLaws.{first_is, last_is, no_first, no_last}
 
@@ -49,12 +49,12 @@ starts_behind r (Behind key) within = record {
 -- ---- values
 
 value_outside : (ls : List Parts) (r : Bounds) (at : ℕ) (k : List ℕ) → holds r k ≡ false → value_in ls r at k ≡ None
-value_outside ls r at k out = ap (λ b. cond b (value_of (verdict (content_in ls) at k)) None) out
+value_outside ls r at k out = ap (λ b. cond b (value_of (verdict (content_of_layers ls) at k)) None) out
 
-value_inside : (ls : List Parts) (r : Bounds) (at : ℕ) (k : List ℕ) (v : Option (List ℕ)) → holds r k ≡ true → value_of (verdict (content_in ls) at k) ≡ v → value_in ls r at k ≡ v
-value_inside ls r at k v inside is = ap (λ b. cond b (value_of (verdict (content_in ls) at k)) None) inside ∙ is
+value_inside : (ls : List Parts) (r : Bounds) (at : ℕ) (k : List ℕ) (v : Option (List ℕ)) → holds r k ≡ true → value_of (verdict (content_of_layers ls) at k) ≡ v → value_in ls r at k ≡ v
+value_inside ls r at k v inside is = ap (λ b. cond b (value_of (verdict (content_of_layers ls) at k)) None) inside ∙ is
 
-none_said : (ls : List Parts) (r : Bounds) (at : ℕ) (k : List ℕ) → value_of (verdict (content_in ls) at k) ≡ None → value_in ls r at k ≡ None
+none_said : (ls : List Parts) (r : Bounds) (at : ℕ) (k : List ℕ) → value_of (verdict (content_of_layers ls) at k) ≡ None → value_in ls r at k ≡ None
 none_said ls r at k none = elim (cases_Bool (holds r k)) [
   | inl e ↦ value_inside ls r at k None e none
   | inr e ↦ value_outside ls r at k e
@@ -87,7 +87,7 @@ below_nearest ls r at edge from key k so_far near h less = elim (cases_Bool (is_
   | inr out ↦ so_far.passed k h out
 ]
 
-pub passed_key : (ls : List Parts) (r : Bounds) (at : ℕ) (edge from : Edge) (b : Bor (List ℕ)) (key : List ℕ) → b.now ≡ key → HasPassed ls r at edge from → IsNearestKey forwards (is_from from) (entries_of ls) key → value_of (verdict (content_in ls) at key) ≡ None → HasPassed ls r at edge (Behind b)
+pub passed_key : (ls : List Parts) (r : Bounds) (at : ℕ) (edge from : Edge) (b : Bor (List ℕ)) (key : List ℕ) → b.now ≡ key → HasPassed ls r at edge from → IsNearestKey forwards (is_from from) (entries_of ls) key → value_of (verdict (content_of_layers ls) at key) ≡ None → HasPassed ls r at edge (Behind b)
 passed_key ls r at edge from b key e so_far near none =
     let ahead : (k : List ℕ) → is_below b.now k ≡ true → is_from from k ≡ true = λ k h. from_upto from key k near.passing (upto_from_below key k (sym (ap (λ x. is_below x k) e) ∙ h)) in
     record {
@@ -118,7 +118,7 @@ first_left ls r at edge from key so_far near left = no_first ls r at (is_from ed
       value_outside ls r at k (and_right (is_upto r.lo k) (is_below k r.hi) out)
 ])
 
-pub first_found : (ls : List Parts) (r : Bounds) (at : ℕ) (edge from : Edge) (key : List ℕ) (p : Point) → HasPassed ls r at edge from → IsNearestKey forwards (is_from from) (entries_of ls) key → is_below key r.hi ≡ true → IsDecider (content_in ls) at key (Some p) → Some (pair_of p) ≡ first_of (filter (λ pair. is_from edge pair.0) (pairs_of ls r at))
+pub first_found : (ls : List Parts) (r : Bounds) (at : ℕ) (edge from : Edge) (key : List ℕ) (p : Point) → HasPassed ls r at edge from → IsNearestKey forwards (is_from from) (entries_of ls) key → is_below key r.hi ≡ true → IsDecider (content_of_layers ls) at key (Some p) → Some (pair_of p) ≡ first_of (filter (λ pair. is_from edge pair.0) (pairs_of ls r at))
 first_found ls r at edge from key p so_far near inside found =
     let held : holds r key ≡ true = and_from (is_upto r.lo key) (is_below key r.hi) (so_far.within key near.passing) inside in
     ap (λ k. Some (k, p.value)) found.0
@@ -160,7 +160,7 @@ above_nearest ls r at end before key k so_far near h more = elim (cases_Bool (is
   | inr out ↦ so_far.passed k h out
 ]
 
-pub passed_key-down : (ls : List Parts) (r : Bounds) (at : ℕ) (end before b key : List ℕ) → b ≡ key → HasPassedDown ls r at end before → IsNearestKey backwards (is_before before) (entries_of ls) key → value_of (verdict (content_in ls) at key) ≡ None → HasPassedDown ls r at end b
+pub passed_key-down : (ls : List Parts) (r : Bounds) (at : ℕ) (end before b key : List ℕ) → b ≡ key → HasPassedDown ls r at end before → IsNearestKey backwards (is_before before) (entries_of ls) key → value_of (verdict (content_of_layers ls) at key) ≡ None → HasPassedDown ls r at end b
 passed_key-down ls r at end before b key e so_far near none =
     let ahead : (k : List ℕ) → is_below k b ≡ true → is_below k before ≡ true = λ k h. below_trans k key before (ap (is_below k) (sym e) ∙ h) near.passing in
     record {
@@ -191,7 +191,7 @@ last_left ls r at end before key so_far near left = no_last ls r at (is_before e
       value_outside ls r at k (and_left (is_upto r.lo k) (is_below k r.hi) out)
 ])
 
-pub last_found : (ls : List Parts) (r : Bounds) (at : ℕ) (end before key : List ℕ) (p : Point) → HasPassedDown ls r at end before → IsNearestKey backwards (is_before before) (entries_of ls) key → is_upto r.lo key ≡ true → IsDecider (content_in ls) at key (Some p) → Some (pair_of p) ≡ last_of (filter (λ pair. is_before end pair.0) (pairs_of ls r at))
+pub last_found : (ls : List Parts) (r : Bounds) (at : ℕ) (end before key : List ℕ) (p : Point) → HasPassedDown ls r at end before → IsNearestKey backwards (is_before before) (entries_of ls) key → is_upto r.lo key ≡ true → IsDecider (content_of_layers ls) at key (Some p) → Some (pair_of p) ≡ last_of (filter (λ pair. is_before end pair.0) (pairs_of ls r at))
 last_found ls r at end before key p so_far near inside found =
     let held : holds r key ≡ true = and_from (is_upto r.lo key) (is_below key r.hi) inside (so_far.within key near.passing) in
     ap (λ k. Some (k, p.value)) found.0

@@ -1,18 +1,18 @@
 -- What a binary search in sorted entries finds.
-use Rattle.std.proofs.Common.{◌≡◌, ℕ, zero, suc, cond, ◌+◌, ◌-◌, ◌<◌, ◌≤◌, Bool, true, false, not, ◌&&◌, ◌||◌, List, [], ◌∷◌, length, get_or, Option, Some, None, inl, inr, leb, ltb, refl, sym, ap, ◌∙◌, subst, arith}
-use Rattle.std.proofs.lemmas.Bool.{cases_Bool, cases_order, cases_lt, false≢true, not-true, not-false, not_from_true, not_from_false, and_parts, and_from, and_left, and_right, and_cases, or_cases, or_left, or_right, or_parts, leb-true, leb-false, le-leb, lt-ltb, le-ltb}
+use Rattle.std.proofs.Common.{◌≡◌, ℕ, zero, suc, cond, ◌+◌, ◌<◌, ◌≤◌, Bool, true, false, not, ◌&&◌, List, [], ◌∷◌, length, get_or, Option, Some, None, inl, inr, leb, ltb, refl, sym, ap, ◌∙◌, subst, arith}
+use Rattle.std.proofs.lemmas.Bool.{cases_Bool, cases_order, cases_lt, false≢true, not-true, not-false, and_parts, and_from, and_left, and_right, and_cases, or_cases, or_left, or_right, or_parts, leb-true, leb-false, le-leb, lt-ltb, le-ltb}
 use Rattle.std.proofs.lemmas.List.{get_or_default}
-use Rattle.std.specs.List.{AllPairs, Contains, find}
-use Rattle.std.specs.List.Sorted.{IsPartitionedBy, IsPartitionPoint}
+use Rattle.std.specs.List.{Contains, find}
+use Rattle.std.specs.List.Sorted.{IsPartitionedBy}
 use Rattle.xdb_key.specs.Entries.{Point}
 use Rattle.xdb_key.specs.Order.{is_below, is_upto}
-use Rattle.xdb_key.proofs.OrderLaws.{upto-not_below, below-itself, upto-itself, below_upto, upto_below, upto_trans, upto_antisymm, upto_from_below}
+use Rattle.xdb_key.proofs.OrderLaws.{upto-not_below, below-itself, upto-itself, below_upto, upto_below, upto_trans, upto_antisymm}
 use Rattle.xdb_rangedel.specs.Content.{entry_of, is_seen, same_key}
 use Rattle.xdb_rangedel.specs.Members.{Has}
 use Rattle.xdb_rangedel.proofs.MemberLaws.{Contains-from_Has, Has-get_or}
 use Rattle.xdb_rangedel.proofs.NewestLaws.{same_key-tells, same_key-itself}
 use Rattle.xdb_merge.specs.Layers.{IsAhead, AreSorted}
-use Rattle.xdb_merge.specs.Search.{is_from, is_short, is_before, forwards, backwards, IsNearest, is_passed, first_seen}
+use Rattle.xdb_merge.specs.Search.{is_from, is_short, is_before, forwards, backwards, IsNearest, Splits, is_passed, first_seen}
 use Rattle.xdb_merge.specs.declared.edge.Edge.{Edge}
 use Rattle.xdb_merge.specs.declared.edge.Edge.TheVariants.{At, Behind}
 
@@ -82,9 +82,6 @@ pub passed-partitioned : (limit : ℕ) (key : List ℕ) (ps : List Point) → Ar
 passed-partitioned limit key ps sorted = by_steps (is_passed limit key) ps sorted (passed_step limit key)
 
 -- ---- the nearest key
-
-abbrev pub Splits : (Point → Bool) → List Point → ℕ → Type 0
-Splits t ps n = IsPartitionPoint (λ p. t p ≡ true) (λ p. t p ≡ false) ps n
 
 from_at : (e : Edge) (p : Point) → is_short e p ≡ false → is_from e p.key ≡ true
 from_at e p h = not-false (is_from e p.key) h
@@ -185,8 +182,8 @@ pub seen_found : (limit : ℕ) (key : List ℕ) (ps : List Point) (n : ℕ) (x :
 seen_found limit key ps n x split inside is upto =
     let rest : is_passed limit key x ≡ false = ap (is_passed limit key) is ∙ split.1 n x (omega arith) inside in
     ap Some is ∙ sym (find_at (λ p. is_seen limit key (entry_of p)) ps n x inside
-      (ap (λ p. is_seen limit key (entry_of p)) (sym is) ∙ seen_at limit key x rest upto)
-      (λ j less. passed-unseen limit key (get_or ps j x) (split.0 j x (omega arith) less)))
+    (ap (λ p. is_seen limit key (entry_of p)) (sym is) ∙ seen_at limit key x rest upto)
+    (λ j less. passed-unseen limit key (get_or ps j x) (split.0 j x (omega arith) less)))
 
 behind-unseen : (limit : ℕ) (key : List ℕ) (x p : Point) → is_upto x.key key ≡ false → is_upto x.key p.key ≡ true → is_seen limit key (entry_of p) ≡ false
 behind-unseen limit key x p behind upto =

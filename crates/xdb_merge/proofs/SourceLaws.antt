@@ -1,12 +1,9 @@
 -- The entries of memtables and of views are sorted, and layers in other order of spans say the same.
-use Rattle.std.proofs.Common.{◌≡◌, ℕ, ◌+◌, ◌*◌, ◌<◌, ◌≤◌, Bool, true, false, cond, ◌==◌, List, [], ◌∷◌, ◌++◌, length, get_or, take, map, append-nil, Option, Some, None, inl, inr, refl, sym, ap, ◌∙◌, subst, arith}
+use Rattle.std.proofs.Common.{◌≡◌, ℕ, ◌+◌, ◌<◌, ◌≤◌, true, cond, ◌==◌, List, [], ◌∷◌, ◌++◌, length, get_or, take, map, append-nil, Option, inl, inr, sym, ap, ◌∙◌, subst, arith}
 use Rattle.std.proofs.lemmas.Bool.{cases_Bool, cases_lt, cases_eq, le-ltb, false≢true}
 use Rattle.std.proofs.lemmas.Grind.{flat_map-append}
 use Rattle.std.proofs.lemmas.List.{map-append, take_more}
 use Rattle.std.specs.Cmp.{tied_itself}
-use Rattle.std.specs.FinMap.{FinMap, get}
-use Rattle.std.specs.List.{flat_map}
-use Rattle.std.specs.Option.{option_map}
 use Rattle.std.specs.Ordering.{nat_cmp, is_lt, ordering_then}
 use Rattle.std.specs.declared.cmp.Ordering.TheVariants.{Less, Equal, Greater}
 use Rattle.xdb_key.specs.Bounds.{Bounds}
@@ -22,15 +19,14 @@ use Rattle.xdb_mem.specs.InOrder.{comes_before, AreInOrder}
 use Rattle.xdb_mem.specs.Parts.{Parts}
 use Rattle.xdb_mem.proofs.InOrderLaws.{before_keys}
 use Rattle.xdb_plain.specs.Answers.{pairs_in}
-use Rattle.xdb_rangedel.specs.Content.{Item, entry, span, said_by, value_of, deleted_at, newer, newest, entry_of, content_of, entries_in}
-use Rattle.xdb_rangedel.specs.Cover.{cover_of}
+use Rattle.xdb_rangedel.specs.Content.{span, said_by, value_of, newer, newest, entry_of, content_of}
 use Rattle.xdb_rangedel.specs.Members.{Has, SameMembers}
 use Rattle.xdb_rangedel.proofs.CoverLaws.{cover_of_unordered}
 use Rattle.xdb_rangedel.proofs.NewestLaws.{newest-append, image_is_one}
 use Rattle.xdb_rangedel.proofs.SpanLaws.{newest_spans_along, Has-entries_in, entries_in-keeps}
 use Rattle.xdb_table_r.specs.Cursors.{Walk, IsWalk}
 use Rattle.xdb_table_r.specs.Views.{AreSeen}
-use Rattle.xdb_merge.specs.Layers.{layer, IsAhead, AreSorted, entries_of, content_in}
+use Rattle.xdb_merge.specs.Layers.{IsAhead, AreSorted, entries_of, content_of_layers}
 use Rattle.xdb_merge.specs.Merge.{layer_of, layers, pairs_of}
 use Rattle.xdb_merge.specs.Sources.{ShowsLayer, AreAlike}
 use Rattle.xdb_merge.specs.Steps.{Decides}
@@ -94,10 +90,10 @@ newest-layer ps ts us same limit k =
 entries_joined : (ls : List Parts) (l : Parts) → entries_of (ls ++ l ∷ []) ≡ entries_of ls ++ l.entries
 entries_joined ls l = flat_map-append (λ (x : Parts). x.entries) ls (l ∷ []) ∙ ap (λ ps. entries_of ls ++ ps) (append-nil l.entries)
 
-newest_joined : (ls : List Parts) (l : Parts) (limit : ℕ) (k : List ℕ) → newest (content_in (ls ++ l ∷ [])) limit k ≡ newer (newest (content_in ls) limit k) (newest (content_of l.entries l.spans) limit k)
+newest_joined : (ls : List Parts) (l : Parts) (limit : ℕ) (k : List ℕ) → newest (content_of_layers (ls ++ l ∷ [])) limit k ≡ newer (newest (content_of_layers ls) limit k) (newest (content_of l.entries l.spans) limit k)
 newest_joined ls l limit k =
-    ap (λ c. newest c limit k) (flat_map-append (λ (x : Parts). content_of x.entries x.spans) ls (l ∷ []) ∙ ap (λ c. content_in ls ++ c) (append-nil (content_of l.entries l.spans)))
-    ∙ newest-append (content_in ls) (content_of l.entries l.spans) limit k
+    ap (λ c. newest c limit k) (flat_map-append (λ (x : Parts). content_of x.entries x.spans) ls (l ∷ []) ∙ ap (λ c. content_of_layers ls ++ c) (append-nil (content_of l.entries l.spans)))
+    ∙ newest-append (content_of_layers ls) (content_of l.entries l.spans) limit k
 
 alike_joined : (ls ms : List Parts) (l m : Parts) → AreAlike ls ms → l.entries ≡ m.entries → SameMembers l.spans m.spans → AreAlike (ls ++ l ∷ []) (ms ++ m ∷ [])
 alike_joined ls ms l m alike entries spans = record {
@@ -105,15 +101,15 @@ alike_joined ls ms l m alike entries spans = record {
   says = λ limit k.
       newest_joined ls l limit k
       ∙ ap (λ o. newer o (newest (content_of l.entries l.spans) limit k)) (alike.says limit k)
-      ∙ ap (λ ps. newer (newest (content_in ms) limit k) (newest (content_of ps l.spans) limit k)) entries
-      ∙ ap (newer (newest (content_in ms) limit k)) (newest-layer m.entries l.spans m.spans spans limit k)
+      ∙ ap (λ ps. newer (newest (content_of_layers ms) limit k) (newest (content_of ps l.spans) limit k)) entries
+      ∙ ap (newer (newest (content_of_layers ms) limit k)) (newest-layer m.entries l.spans m.spans spans limit k)
       ∙ sym (newest_joined ms m limit k);
 }
 
 pub alike_mem : (F : Type 0) (mem l : Parts) (ls : List Parts) → ls ≡ l ∷ [] → l ≡ mem → AreAlike ls (layers {F = F} mem [])
 alike_mem F mem l ls made is = record {
   entries = ap entries_of made ∙ ap (λ x. entries_of (x ∷ [])) is;
-  says = λ limit k. ap (λ xs. newest (content_in xs) limit k) made ∙ ap (λ x. newest (content_in (x ∷ [])) limit k) is;
+  says = λ limit k. ap (λ xs. newest (content_of_layers xs) limit k) made ∙ ap (λ x. newest (content_of_layers (x ∷ [])) limit k) is;
 }
 
 layers_more : {F : Type 0} (mem : Parts) (ws : List (Walk F)) (i : ℕ) (w : Walk F) → i < length ws → w ≡ get_or ws i w → layers mem (take (i + 1) ws) ≡ layers mem (take i ws) ++ layer_of w ∷ []
@@ -128,13 +124,13 @@ alike_more mem ws i w ls l inside is read alike shows =
 -- ---- the pairs, and what decides
 
 pub alike_pairs : (ls ms : List Parts) (r : Bounds) (at : ℕ) → AreAlike ls ms → pairs_of ls r at ≡ pairs_of ms r at
-alike_pairs ls ms r at alike = ap (pairs_in r) (image_is_one (content_in ms) at (image (content_in ls) at) (image (content_in ms) at)
-    (λ k. image-is (content_in ls) at k ∙ ap (λ o. value_of (said_by o)) (alike.says at k))
-    (image-is (content_in ms) at))
+alike_pairs ls ms r at alike = ap (pairs_in r) (image_is_one (content_of_layers ms) at (image (content_of_layers ls) at) (image (content_of_layers ms) at)
+    (λ k. image-is (content_of_layers ls) at k ∙ ap (λ o. value_of (said_by o)) (alike.says at k))
+    (image-is (content_of_layers ms) at))
 
-pub alike_decides : (ls ms : List Parts) (at : ℕ) (p : Point) → AreAlike ls ms → Decides (content_in ls) at p → Decides (content_in ms) at p
+pub alike_decides : (ls ms : List Parts) (at : ℕ) (p : Point) → AreAlike ls ms → Decides (content_of_layers ls) at p → Decides (content_of_layers ms) at p
 alike_decides ls ms at p alike decides = record {
-  member = Has-entries_in (content_in ms) (entry_of p)
-      (subst (λ c. Has c (entry_of p)) (entries_are ls ∙ ap (map entry_of) alike.entries ∙ sym (entries_are ms)) (entries_in-keeps (content_in ls) p.key p.seq _ decides.member));
+  member = Has-entries_in (content_of_layers ms) (entry_of p)
+      (subst (λ c. Has c (entry_of p)) (entries_are ls ∙ ap (map entry_of) alike.entries ∙ sym (entries_are ms)) (entries_in-keeps (content_of_layers ls) p.key p.seq _ decides.member));
   newest = sym (alike.says at p.key) ∙ decides.newest;
 }

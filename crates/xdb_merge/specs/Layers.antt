@@ -1,5 +1,5 @@
 -- Layers: what memtables or one table have, as entries and range tombstones. All layers together are one content.
-use Rattle.std.specs.Prelude.{◌≡◌, ℕ, ◌≤◌, Bool, true, List}
+use Rattle.std.specs.Prelude.{◌≡◌, ◌≤◌, true, List}
 use Rattle.std.specs.List.{AllPairs, flat_map}
 use Rattle.xdb_key.specs.Entries.{Point, Tombstone}
 use Rattle.xdb_key.specs.Order.{is_upto}
@@ -18,8 +18,8 @@ abbrev pub spans_of : List Parts → List Tombstone
 spans_of ls = flat_map (λ l. l.spans) ls
 
 -- what the layers hold together
-abbrev pub content_in : List Parts → List Item
-content_in ls = flat_map (λ l. content_of l.entries l.spans) ls
+abbrev pub content_of_layers : List Parts → List Item
+content_of_layers ls = flat_map (λ l. content_of l.entries l.spans) ls
 
 -- the first has a key up to the second's, and if they are one key, no lesser number
 pub record IsAhead (p q : Point) : Type 0 where

@@ -8,7 +8,7 @@ use Rattle.xdb_plain.specs.declared.question.Place.{Place}
 use Rattle.xdb_rangedel.specs.Content.{Item}
 use Rattle.xdb_table_r.specs.Cursors.{Walk}
 use Rattle.xdb_table_r.specs.Views.{keys_of, spans_in}
-use Rattle.xdb_merge.specs.Layers.{layer, content_in}
+use Rattle.xdb_merge.specs.Layers.{layer, content_of_layers}
 
 -- what memtables have, cursors of views, and the bounds and the number that the content is seen with
 pub record Merge (F : Type 0) : Type 0 where
@@ -30,11 +30,11 @@ layers mem walks = mem ∷ map layer_of walks
 
 -- all that the memtables and the views hold
 abbrev pub content : {F : Type 0} → Merge F → List Item
-content m = content_in (layers m.mem m.walks)
+content m = content_of_layers (layers m.mem m.walks)
 
 -- the pairs of the content's image at the number, inside the bounds, by rising keys
 abbrev pub pairs_of : List Parts → Bounds → ℕ → List (List ℕ × List ℕ)
-pairs_of ls bounds at = pairs_in bounds (image (content_in ls) at)
+pairs_of ls bounds at = pairs_in bounds (image (content_of_layers ls) at)
 
 abbrev pub pairs : {F : Type 0} → Merge F → List (List ℕ × List ℕ)
 pairs m = pairs_of (layers m.mem m.walks) m.bounds m.at

@@ -7,7 +7,7 @@ use Rattle.xdb_plain.specs.Answers.{landing, moved}
 use Rattle.xdb_plain.specs.declared.question.Place.{Place}
 use Rattle.xdb_plain.specs.declared.question.Step.{Step}
 use Rattle.xdb_plain.specs.declared.question.Step.TheVariants as steps
-use Rattle.xdb_merge.specs.Layers.{content_in}
+use Rattle.xdb_merge.specs.Layers.{content_of_layers}
 use Rattle.xdb_merge.specs.Merge.{pairs_of}
 use Rattle.xdb_merge.specs.Steps.{answer_of, Decides}
 use Rattle.xdb_merge.specs.declared.moves.Move.{Move}
@@ -23,4 +23,4 @@ step_of (Lt key) = steps.SeekLt key.now
 -- the entry and the place are those of the step among the pairs of the layers
 pub record IsLanded (ls : List Parts) (r : Bounds) (at : ℕ) (old : Place) (step : Step) (e : Option Point) (new : Place) : Type 0 where
   pub moves : landing (answer_of e) new ≡ moved (pairs_of ls r at) old step
-  pub decides : IfSome e (Decides (content_in ls) at)
+  pub decides : IfSome e (Decides (content_of_layers ls) at)

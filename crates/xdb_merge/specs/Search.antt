@@ -1,16 +1,17 @@
 -- How the next pair is found: the nearest key of an entry, and what decides there.
-use Rattle.std.specs.Prelude.{◌≡◌, ℕ, ◌≤◌, Bool, true, false, not, ◌&&◌, ◌||◌, List, map, Option, Some, None, IfSome, nat_le, nat_lt, if◌then◌else◌}
+use Rattle.std.specs.Prelude.{◌≡◌, ℕ, Bool, true, false, not, ◌&&◌, ◌||◌, List, map, Option, Some, None, IfSome, nat_le, nat_lt, if◌then◌else◌}
 use Rattle.std.specs.List.{find}
+use Rattle.std.specs.List.Sorted.{IsPartitionPoint}
 use Rattle.std.specs.Option.{option_map}
 use Rattle.xdb_key.specs.Bounds.{Bounds, holds}
-use Rattle.xdb_key.specs.Entries.{Point, Tombstone}
+use Rattle.xdb_key.specs.Entries.{Point}
 use Rattle.xdb_key.specs.Order.{is_below, is_upto}
 use Rattle.xdb_key.specs.declared.op.Kind.{Kind}
 use Rattle.xdb_key.specs.declared.op.Kind.TheVariants.{Del, Set, SpanDel}
 use Rattle.xdb_mem.specs.Parts.{Parts}
 use Rattle.xdb_rangedel.specs.Content.{Item, entry_of, mark, newest, is_seen, verdict, value_of}
 use Rattle.xdb_rangedel.specs.Members.{Has}
-use Rattle.xdb_merge.specs.Layers.{content_in}
+use Rattle.xdb_merge.specs.Layers.{content_of_layers}
 use Rattle.xdb_merge.specs.Steps.{Decides}
 use Rattle.xdb_merge.specs.declared.edge.Edge.{Edge}
 use Rattle.xdb_merge.specs.declared.edge.Edge.TheVariants.{At, Behind}
@@ -26,6 +27,10 @@ edge_key (Behind key) = key.now
 
 abbrev pub is_short : Edge → Point → Bool
 is_short e p = not (is_from e p.key)
+
+-- up to a place each entry passes the test, and none from there on
+abbrev pub Splits : (Point → Bool) → List Point → ℕ → Type 0
+Splits t ps n = IsPartitionPoint (λ p. t p ≡ true) (λ p. t p ≡ false) ps n
 
 abbrev pub is_before : List ℕ → List ℕ → Bool
 is_before end k = is_below k end
@@ -117,4 +122,4 @@ end_in r end = if is_below r.hi end then r.hi else end
 
 -- the value of a key, inside the bounds
 abbrev pub value_in : List Parts → Bounds → ℕ → List ℕ → Option (List ℕ)
-value_in ls r at k = if holds r k then value_of (verdict (content_in ls) at k) else None
+value_in ls r at k = if holds r k then value_of (verdict (content_of_layers ls) at k) else None

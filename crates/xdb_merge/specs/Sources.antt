@@ -6,7 +6,7 @@ use Rattle.xdb_rangedel.specs.Content.{newest}
 use Rattle.xdb_rangedel.specs.Members.{SameMembers}
 use Rattle.xdb_table_r.specs.Cursors.{Walk, walk}
 use Rattle.xdb_table_r.specs.Views.{Shown}
-use Rattle.xdb_merge.specs.Layers.{entries_of, content_in}
+use Rattle.xdb_merge.specs.Layers.{entries_of, content_of_layers}
 use Rattle.xdb_merge.specs.Merge.{layer_of}
 
 -- a cursor of a view that isn't read yet
@@ -25,4 +25,4 @@ pub record ShowsLayer {F : Type 0} (w : Walk F) (l : Parts) : Type 0 where
 -- layers of the same entries that say the same of each key
 pub record AreAlike (ls ms : List Parts) : Type 0 where
   pub entries : entries_of ls ≡ entries_of ms
-  pub says : (limit : ℕ) (k : List ℕ) → newest (content_in ls) limit k ≡ newest (content_in ms) limit k
+  pub says : (limit : ℕ) (k : List ℕ) → newest (content_of_layers ls) limit k ≡ newest (content_of_layers ms) limit k

@@ -1,9 +1,8 @@
-ghost use Rattle.std.specs.Prelude.{◌≡◌, ◌≤◌, true, false, length};
-ghost use Rattle.std.specs.List.Sorted.{IsPartitionPoint};
+ghost use Rattle.std.specs.Prelude.{◌≡◌, ◌≤◌, length};
 ghost use Rattle.std.specs.Option.{option_copied};
 ghost use Rattle.xdb_rangedel.specs.Cover.{cover_of};
 ghost use Rattle.xdb_merge.specs.Layers.{layer, AreSorted};
-ghost use Rattle.xdb_merge.specs.Search.{is_from, is_before, forwards, backwards, IsNearest, is_short, is_passed, first_seen};
+ghost use Rattle.xdb_merge.specs.Search.{is_from, is_before, forwards, backwards, IsNearest, is_short, Splits, is_passed, first_seen};
 
 use crate::edge::{Edge, is_from};
 use std::marker::Model;
@@ -108,7 +107,7 @@ fn first_seen<'a>(entries: &'a [Entry], at: u64, key: &Key) -> Option<&'a Entry>
 fn place_from(entries: &[Entry], edge: Edge) -> usize
     requires { AreSorted entries.now }
     ensures bound { result ≤ length entries.now }
-    ensures split { IsPartitionPoint (λ p. is_short edge.entry p ≡ true) (λ p. is_short edge.entry p ≡ false) entries.now result }
+    ensures split { Splits (is_short edge.entry) entries.now result }
 {
     entries.partition_point(|entry| !is_from(edge, entry.key()))
 }

@@ -2,6 +2,7 @@
 #![tactic(auto)]
 
 mod edge;
+pub mod laws;
 mod layer;
 mod merged;
 mod moves;

@@ -60,9 +60,37 @@ impl<F: FileRef> Merged<F> {
         })
     }
 
+    /// The cursor at a place, as one that has gone there.
+    pub fn with_place(self, place: Place) -> Self
+        ensures { result ≡ merge self.mem self.walks self.bounds self.at place }
+    {
+        let Merged {
+            mem,
+            sources,
+            bounds,
+            at,
+            place: _,
+        } = self;
+        Merged {
+            mem,
+            sources,
+            bounds,
+            at,
+            place,
+        }
+    }
+
+    /// Where it stands.
+    pub fn place(&self) -> &Place
+        ensures { result.now ≡ self.now.place }
+    {
+        &self.place
+    }
+
     /// Goes to the next pair. Behind the last one it stays.
     pub fn next<R: Reader<File = F>>(&mut self, dev: &mut R) -> Result<Option<Entry>, TableNo>
-        ensures counted { Counted R.faults R.misses R.frame dev.old dev.new (IsErrOf result TableNo.ReadFault) }
+        ensures counted { Counted R.faults R.misses R.frame dev.old dev.new
+            (IsErrOf result TableNo.ReadFault) }
         ensures told { R.told dev.new ≡ R.told dev.old }
         // The views are read once.
         ensures alone { AreRead self.old.walks → dev.new ≡ dev.old }
@@ -73,7 +101,8 @@ impl<F: FileRef> Merged<F> {
 
     /// Goes to the pair before. Before the first one it stays.
     pub fn prev<R: Reader<File = F>>(&mut self, dev: &mut R) -> Result<Option<Entry>, TableNo>
-        ensures counted { Counted R.faults R.misses R.frame dev.old dev.new (IsErrOf result TableNo.ReadFault) }
+        ensures counted { Counted R.faults R.misses R.frame dev.old dev.new
+            (IsErrOf result TableNo.ReadFault) }
         ensures told { R.told dev.new ≡ R.told dev.old }
         // The views are read once.
         ensures alone { AreRead self.old.walks → dev.new ≡ dev.old }
@@ -88,7 +117,8 @@ impl<F: FileRef> Merged<F> {
         key: &Key,
         dev: &mut R,
     ) -> Result<Option<Entry>, TableNo>
-        ensures counted { Counted R.faults R.misses R.frame dev.old dev.new (IsErrOf result TableNo.ReadFault) }
+        ensures counted { Counted R.faults R.misses R.frame dev.old dev.new
+            (IsErrOf result TableNo.ReadFault) }
         ensures told { R.told dev.new ≡ R.told dev.old }
         // The views are read once.
         ensures alone { AreRead self.old.walks → dev.new ≡ dev.old }
@@ -103,7 +133,8 @@ impl<F: FileRef> Merged<F> {
         key: &Key,
         dev: &mut R,
     ) -> Result<Option<Entry>, TableNo>
-        ensures counted { Counted R.faults R.misses R.frame dev.old dev.new (IsErrOf result TableNo.ReadFault) }
+        ensures counted { Counted R.faults R.misses R.frame dev.old dev.new
+            (IsErrOf result TableNo.ReadFault) }
         ensures told { R.told dev.new ≡ R.told dev.old }
         // The views are read once.
         ensures alone { AreRead self.old.walks → dev.new ≡ dev.old }
@@ -113,12 +144,9 @@ impl<F: FileRef> Merged<F> {
     }
 
     /// Reads what isn't read yet, then moves.
-    fn go<R: Reader<File = F>>(
-        &mut self,
-        to: Move,
-        dev: &mut R,
-    ) -> Result<Option<Entry>, TableNo>
-        ensures counted { Counted R.faults R.misses R.frame dev.old dev.new (IsErrOf result TableNo.ReadFault) }
+    fn go<R: Reader<File = F>>(&mut self, to: Move, dev: &mut R) -> Result<Option<Entry>, TableNo>
+        ensures counted { Counted R.faults R.misses R.frame dev.old dev.new
+            (IsErrOf result TableNo.ReadFault) }
         ensures told { R.told dev.new ≡ R.told dev.old }
         ensures alone { AreRead self.old.walks → dev.new ≡ dev.old }
         ensures step { IsStep F.bytes (step_of to.entry) self.old self.new result }
@@ -147,16 +175,14 @@ fn moved<'a, F: FileRef>(
     to: Move<'a>,
 ) -> Result<(Option<Entry>, Place), AllocError>
     requires { AreRead sources.now.items }
-    ensures { IfOk result (λ l. IsLanded (layers mem.now sources.now.items) bounds.now at place.now (step_of to.entry) l.0 l.1) }
+    ensures { IfOk result (λ l. IsLanded (layers mem.now sources.now.items) bounds.now at
+        place.now (step_of to.entry) l.0 l.1) }
 {
     let layers = layers(mem, sources)?;
     landed(&layers, bounds, at, place, to)
 }
 
-fn sources<F: FileRef>(
-    alloc: Global,
-    views: Vec<View<F>>,
-) -> Result<Vec<Source<F>>, AllocError>
+fn sources<F: FileRef>(alloc: Global, views: Vec<View<F>>) -> Result<Vec<Source<F>>, AllocError>
     ensures { IfOk result (λ made. made.items ≡ map unread views.items) }
 {
     let mut sources = Vec::with_capacity(alloc, views.len())?;

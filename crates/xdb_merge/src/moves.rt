@@ -2,7 +2,7 @@
 ghost use Rattle.std.specs.Prelude.{◌≡◌, IfOk, IfSome};
 ghost use Rattle.std.specs.Option.{option_copied, option_map};
 ghost use Rattle.xdb_plain.specs.Answers.{landing, at_or_after, at_or_before, next_from, prev_from};
-ghost use Rattle.xdb_merge.specs.Layers.{content_in};
+ghost use Rattle.xdb_merge.specs.Layers.{content_of_layers};
 ghost use Rattle.xdb_merge.specs.Merge.{pairs_of};
 ghost use Rattle.xdb_merge.specs.Moves.{step_of, IsLanded};
 ghost use Rattle.xdb_merge.specs.Search.{pair_of};
@@ -34,7 +34,8 @@ pub fn landed<'a>(
     place: &'a Place,
     to: Move<'a>,
 ) -> Result<(Option<Entry>, Place), AllocError>
-    ensures { IfOk result (λ l. IsLanded layers.now bounds.now at place.now (step_of to.entry) l.0 l.1) }
+    ensures { IfOk result (λ l. IsLanded layers.now bounds.now at place.now (step_of to.entry)
+        l.0 l.1) }
 {
     match to {
         Move::Next => at_or_after(next_pair(layers, bounds, at, place)),
@@ -51,8 +52,9 @@ fn next_pair<'a>(
     at: u64,
     place: &'a Place,
 ) -> Option<&'a Entry>
-    ensures moves { at_or_after (option_map pair_of (option_copied result)) ≡ next_from (pairs_of layers.now bounds.now at) place.now }
-    ensures decides { IfSome (option_copied result) (Decides (content_in layers.now) at) }
+    ensures moves { at_or_after (option_map pair_of (option_copied result))
+        ≡ next_from (pairs_of layers.now bounds.now at) place.now }
+    ensures decides { IfSome (option_copied result) (Decides (content_of_layers layers.now) at) }
 {
     match place {
         Place::Before => first_pair(layers, bounds, at, Edge::At(bounds.lo().bytes())),
@@ -68,8 +70,9 @@ fn prev_pair<'a>(
     at: u64,
     place: &'a Place,
 ) -> Option<&'a Entry>
-    ensures moves { at_or_before (option_map pair_of (option_copied result)) ≡ prev_from (pairs_of layers.now bounds.now at) place.now }
-    ensures decides { IfSome (option_copied result) (Decides (content_in layers.now) at) }
+    ensures moves { at_or_before (option_map pair_of (option_copied result))
+        ≡ prev_from (pairs_of layers.now bounds.now at) place.now }
+    ensures decides { IfSome (option_copied result) (Decides (content_of_layers layers.now) at) }
 {
     match place {
         Place::Before => None,
@@ -81,7 +84,8 @@ fn prev_pair<'a>(
 /// At the entry, or behind the last pair.
 fn at_or_after(entry: Option<&Entry>) -> Result<(Option<Entry>, Place), AllocError>
     ensures same { IfOk result (λ l. l.0 ≡ option_copied entry.entry) }
-    ensures place { IfOk result (λ l. landing (answer_of l.0) l.1 ≡ at_or_after (option_map pair_of (option_copied entry.entry))) }
+    ensures place { IfOk result (λ l. landing (answer_of l.0) l.1
+        ≡ at_or_after (option_map pair_of (option_copied entry.entry))) }
 {
     match entry {
         Some(entry) => on(entry),
@@ -92,7 +96,8 @@ fn at_or_after(entry: Option<&Entry>) -> Result<(Option<Entry>, Place), AllocErr
 /// At the entry, or before the first pair.
 fn at_or_before(entry: Option<&Entry>) -> Result<(Option<Entry>, Place), AllocError>
     ensures same { IfOk result (λ l. l.0 ≡ option_copied entry.entry) }
-    ensures place { IfOk result (λ l. landing (answer_of l.0) l.1 ≡ at_or_before (option_map pair_of (option_copied entry.entry))) }
+    ensures place { IfOk result (λ l. landing (answer_of l.0) l.1
+        ≡ at_or_before (option_map pair_of (option_copied entry.entry))) }
 {
     match entry {
         Some(entry) => on(entry),

@@ -6,7 +6,7 @@ ghost use Rattle.std.specs.Option.{option_copied, option_map};
 ghost use Rattle.xdb_plain.specs.Answers.{first_of, last_of};
 ghost use Rattle.xdb_rangedel.specs.Content.{entry_of, mark, newest};
 ghost use Rattle.xdb_rangedel.specs.Cover.{cover_of, greater};
-ghost use Rattle.xdb_merge.specs.Layers.{entries_of, spans_of, content_in};
+ghost use Rattle.xdb_merge.specs.Layers.{entries_of, spans_of, content_of_layers};
 ghost use Rattle.xdb_merge.specs.Merge.{pairs_of};
 ghost use Rattle.xdb_merge.specs.Steps.{Decides};
 ghost use Rattle.xdb_merge.specs.Search.{is_from, is_before, forwards, backwards, IsNearest, nearer, newer_entry, IsNewest, is_set, is_hidden, is_shown, shown, IsDecider, pair_of, StartsIn, end_in};
@@ -22,8 +22,10 @@ pub fn first_pair<'a>(
     at: u64,
     edge: Edge<'a>,
 ) -> Option<&'a Entry>
-    ensures pair { option_map pair_of (option_copied result) ≡ first_of (filter (λ pair. is_from edge.entry pair.0) (pairs_of layers.now bounds.now at)) }
-    ensures decides { IfSome (option_copied result) (Decides (content_in layers.now) at) }
+    ensures pair { option_map pair_of (option_copied result)
+        ≡ first_of (filter (λ pair. is_from edge.entry pair.0)
+        (pairs_of layers.now bounds.now at)) }
+    ensures decides { IfSome (option_copied result) (Decides (content_of_layers layers.now) at) }
 {
     let mut from = start(bounds, edge);
     while let Some(key) = first_key(layers, from) {
@@ -45,8 +47,10 @@ pub fn last_pair<'a>(
     at: u64,
     end: &'a [u8],
 ) -> Option<&'a Entry>
-    ensures pair { option_map pair_of (option_copied result) ≡ last_of (filter (λ pair. is_before end.now pair.0) (pairs_of layers.now bounds.now at)) }
-    ensures decides { IfSome (option_copied result) (Decides (content_in layers.now) at) }
+    ensures pair { option_map pair_of (option_copied result)
+        ≡ last_of (filter (λ pair. is_before end.now pair.0)
+        (pairs_of layers.now bounds.now at)) }
+    ensures decides { IfSome (option_copied result) (Decides (content_of_layers layers.now) at) }
 {
     let mut before = lesser_end(bounds, end);
     while let Some(key) = last_key(layers, before) {
@@ -83,7 +87,8 @@ fn lesser_end<'a>(bounds: &'a KeyRange, end: &'a [u8]) -> &'a [u8]
 
 /// The least key of the layers from the edge on.
 fn first_key<'a>(layers: &[Layer<'a>], edge: Edge) -> Option<&'a Key>
-    ensures { IsNearest forwards (is_from edge.entry) (entries_of layers.now) (option_copied result) }
+    ensures { IsNearest forwards (is_from edge.entry) (entries_of layers.now)
+        (option_copied result) }
 {
     let mut best = None;
     for layer in layers {
@@ -94,7 +99,8 @@ fn first_key<'a>(layers: &[Layer<'a>], edge: Edge) -> Option<&'a Key>
 
 /// The greatest key of the layers before the end.
 fn last_key<'a>(layers: &[Layer<'a>], end: &[u8]) -> Option<&'a Key>
-    ensures { IsNearest backwards (is_before end.now) (entries_of layers.now) (option_copied result) }
+    ensures { IsNearest backwards (is_before end.now) (entries_of layers.now)
+        (option_copied result) }
 {
     let mut best = None;
     for layer in layers {
@@ -104,7 +110,8 @@ fn last_key<'a>(layers: &[Layer<'a>], end: &[u8]) -> Option<&'a Key>
 }
 
 fn lesser<'a>(a: Option<&'a Key>, b: Option<&'a Key>) -> Option<&'a Key>
-    ensures { option_copied result ≡ nearer forwards (option_copied a.entry) (option_copied b.entry) }
+    ensures { option_copied result
+        ≡ nearer forwards (option_copied a.entry) (option_copied b.entry) }
 {
     match (a, b) {
         (None, _) => b,
@@ -120,7 +127,8 @@ fn lesser<'a>(a: Option<&'a Key>, b: Option<&'a Key>) -> Option<&'a Key>
 }
 
 fn greater<'a>(a: Option<&'a Key>, b: Option<&'a Key>) -> Option<&'a Key>
-    ensures { option_copied result ≡ nearer backwards (option_copied a.entry) (option_copied b.entry) }
+    ensures { option_copied result
+        ≡ nearer backwards (option_copied a.entry) (option_copied b.entry) }
 {
     match (a, b) {
         (None, _) => b,
@@ -137,7 +145,7 @@ fn greater<'a>(a: Option<&'a Key>, b: Option<&'a Key>) -> Option<&'a Key>
 
 /// The entry that gives the key its value, at numbers below `at`; None where it has none.
 fn decide<'a>(layers: &[Layer<'a>], at: u64, key: &Key) -> Option<&'a Entry>
-    ensures { IsDecider (content_in layers.now) at key.now (option_copied result) }
+    ensures { IsDecider (content_of_layers layers.now) at key.now (option_copied result) }
 {
     shown(newest(layers, at, key), cover(layers, at, key))
 }
@@ -195,13 +203,7 @@ fn newer<'a>(a: Option<&'a Entry>, b: Option<&'a Entry>) -> Option<&'a Entry>
     match (a, b) {
         (None, _) => b,
         (_, None) => a,
-        (Some(first), Some(second)) => {
-            if first.seq() < second.seq() {
-                b
-            } else {
-                a
-            }
-        }
+        (Some(first), Some(second)) => { if first.seq() < second.seq() { b } else { a } }
     }
 }
 
@@ -222,12 +224,6 @@ fn greater_number(a: Option<u64>, b: Option<u64>) -> Option<u64>
     match (a, b) {
         (None, _) => b,
         (_, None) => a,
-        (Some(first), Some(second)) => {
-            if first < second {
-                b
-            } else {
-                a
-            }
-        }
+        (Some(first), Some(second)) => { if first < second { b } else { a } }
     }
 }

@@ -46,7 +46,8 @@ impl<F: FileRef> Source<F> {
 
     /// Reads the view, where it isn't read yet.
     pub fn load<R: Reader<File = F>>(&mut self, dev: &mut R) -> Result<(), TableNo>
-        ensures counted { Counted R.faults R.misses R.frame dev.old dev.new (IsErrOf result TableNo.ReadFault) }
+        ensures counted { Counted R.faults R.misses R.frame dev.old dev.new
+            (IsErrOf result TableNo.ReadFault) }
         ensures told { R.told dev.new ≡ R.told dev.old }
         ensures alone { self.old.read ≡ true → dev.new ≡ dev.old }
         ensures later { IsLater F.bytes self.old self.new }
@@ -75,7 +76,8 @@ pub fn load_all<F: FileRef, R: Reader<File = F>>(
     sources: &mut Vec<Source<F>>,
     dev: &mut R,
 ) -> Result<(), TableNo>
-    ensures counted { Counted R.faults R.misses R.frame dev.old dev.new (IsErrOf result TableNo.ReadFault) }
+    ensures counted { Counted R.faults R.misses R.frame dev.old dev.new
+        (IsErrOf result TableNo.ReadFault) }
     ensures told { R.told dev.new ≡ R.told dev.old }
     ensures alone { AreRead sources.old.items → dev.new ≡ dev.old }
     ensures later { ArePaired (IsLater F.bytes) sources.old.items sources.new.items }

@@ -116,12 +116,22 @@ const OVER: &[Table] = &[
 /// The first table's numbers are all 7, so its points stand over its span, and over what has lesser numbers.
 const ONE_NUMBER: &[Table] = &[
     Table {
-        points: &[(b'a', 1, b'1'), (b'b', 3, b'3'), (b'b', 2, b'2'), (b'z', 4, b'4')],
+        points: &[
+            (b'a', 1, b'1'),
+            (b'b', 3, b'3'),
+            (b'b', 2, b'2'),
+            (b'z', 4, b'4'),
+        ],
         spans: &[(b'a', b'y', 5)],
         seen: (b'a', b'x', 7),
     },
     Table {
-        points: &[(b'a', 6, b'6'), (b'c', 6, b'6'), (b'd', 8, b'8'), (b'z', 6, b'6')],
+        points: &[
+            (b'a', 6, b'6'),
+            (b'c', 6, b'6'),
+            (b'd', 8, b'8'),
+            (b'z', 6, b'6'),
+        ],
         spans: &[],
         seen: WHOLE,
     },
@@ -169,7 +179,10 @@ const CASES: [Case; 9] = [
         lo: 1,
         hi: 255,
         at: 3,
-        calls: &[(Call::Lt(b'z'), (b'b', 2, b'2')), (Call::Prev, (b'a', 1, b'1'))],
+        calls: &[
+            (Call::Lt(b'z'), (b'b', 2, b'2')),
+            (Call::Prev, (b'a', 1, b'1')),
+        ],
     },
     Case {
         first: 1,
@@ -262,7 +275,12 @@ const CASES: [Case; 9] = [
         lo: 1,
         hi: 255,
         at: 100,
-        calls: &[(Call::Next, END), (Call::Prev, END), (Call::Ge(b'a'), END), (Call::Lt(b'a'), END)],
+        calls: &[
+            (Call::Next, END),
+            (Call::Prev, END),
+            (Call::Ge(b'a'), END),
+            (Call::Lt(b'a'), END),
+        ],
     },
 ];
 
@@ -518,11 +536,13 @@ fn goes_on_after_a_fault(
 ) -> Result<bool, Fail> {
     let failed = fails(alloc, pairs, dev, Call::Lt(b'z'), TableNo::ReadFault)?;
     let calls = dev.calls();
-    Ok(failed
-        && answers(alloc, pairs, dev, Call::Next, (b'a', 10, b'1'))?
-        && dev.calls() == calls.saturating_add(1)
-        && answers(alloc, pairs, dev, Call::Next, (b'b', 5, b'2'))?
-        && dev.calls() == calls.saturating_add(1))
+    Ok(
+        failed
+            && answers(alloc, pairs, dev, Call::Next, (b'a', 10, b'1'))?
+            && dev.calls() == calls.saturating_add(1)
+            && answers(alloc, pairs, dev, Call::Next, (b'b', 5, b'2'))?
+            && dev.calls() == calls.saturating_add(1),
+    )
 }
 
 fn two_go_on(alloc: Global, dev: &mut MemDevice) -> Result<bool, Fail> {

@@ -1,5 +1,5 @@
 -- What is left to answer of `first_seen`.
-use Rattle.std.proofs.Common.{◌≡◌, true, false, rules, sym, ap, ◌∙◌}
+use Rattle.std.proofs.Common.{◌≡◌, true, false, rules}
 use Rattle.std.proofs.lemmas.List.Sorted.{IsPartitionPoint-from_clause}
 use Rattle.xdb_key.specs.Order.{is_upto}
 use Rattle.xdb_merge.specs.Search.{is_passed}

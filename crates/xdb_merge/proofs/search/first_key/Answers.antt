@@ -1,5 +1,4 @@
 -- The layer at the index joins those before it.
-use Rattle.std.specs.Option.{option_copied}
 use Rattle.xdb_merge.specs.Search.{is_from}
 use Rattle.xdb_merge.proofs.LayerLaws.{first_more}
 use Rattle.xdb_merge.proofs.search.first_key.Goals as goal

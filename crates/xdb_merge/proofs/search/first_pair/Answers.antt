@@ -1,8 +1,6 @@
 -- What is left to answer of `first_pair`.
-use Rattle.std.proofs.Common.{◌≡◌, true, false, None}
+use Rattle.std.proofs.Common.{◌≡◌, true, false}
 use Rattle.xdb_key.specs.Order.{is_below}
-use Rattle.xdb_rangedel.specs.Content.{verdict, value_of}
-use Rattle.xdb_merge.specs.Layers.{content_in}
 use Rattle.xdb_merge.proofs.SearchLaws.{passed_none, passed_key, first_ended, first_left, first_found, fewer_behind}
 use Rattle.xdb_merge.proofs.search.first_pair.Goals as goal
 

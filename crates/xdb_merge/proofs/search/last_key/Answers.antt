@@ -1,5 +1,4 @@
 -- The layer at the index joins those before it.
-use Rattle.std.specs.Option.{option_copied}
 use Rattle.xdb_merge.specs.Search.{is_before}
 use Rattle.xdb_merge.proofs.LayerLaws.{last_more}
 use Rattle.xdb_merge.proofs.search.last_key.Goals as goal

@@ -1,5 +1,5 @@
 -- What is left to answer of `last_pair`.
-use Rattle.std.proofs.Common.{◌≡◌, true, false, None}
+use Rattle.std.proofs.Common.{◌≡◌, true, false}
 use Rattle.xdb_key.specs.Order.{is_upto}
 use Rattle.xdb_merge.proofs.SearchLaws.{down_none, passed_key-down, last_ended, last_left, last_found, fewer_before}
 use Rattle.xdb_merge.proofs.search.last_pair.Goals as goal

@@ -1,6 +1,5 @@
 -- What is left to answer of `layers`.
-use Rattle.std.proofs.Common.{◌≡◌, ◌+◌, ◌<◌, length, get_or, take, ◌∷◌, [], ◌++◌, List, sym, ap, ◌∙◌, subst, arith}
-use Rattle.xdb_mem.specs.Parts.{Parts}
+use Rattle.std.proofs.Common.{◌≡◌, ◌+◌, ◌<◌, length, get_or, take, ◌∷◌, [], ◌++◌, sym, ap, ◌∙◌, subst}
 use Rattle.xdb_merge.specs.Layers.{layer, AreSorted}
 use Rattle.xdb_merge.specs.Merge.{layers}
 use Rattle.xdb_merge.specs.Sources.{AreAlike}

@@ -1,9 +1,8 @@
 -- What is left to answer of `load_all`.
-use Rattle.std.proofs.Common.{◌≡◌, ◌<◌, length, slice_set, refl, sym, ◌∙◌, subst, arith}
+use Rattle.std.proofs.Common.{◌≡◌, length, slice_set, refl, sym, ◌∙◌, subst, arith}
 use Rattle.std.proofs.lemmas.List.{length-set}
 use Rattle.std.specs.List.{AllByRecursion}
 use Rattle.xdb_device.proofs.Counts.{Counted-refl, Counted-then, Counted-where}
-use Rattle.xdb_table_r.specs.Cursors.{Walk}
 use Rattle.xdb_merge.specs.Steps.{ArePaired, AreRead, IsLater, IsLoaded, views}
 use Rattle.xdb_merge.proofs.LoadLaws.{written, no_fault, loads_length, loads_start, loads_later, loads_more, read_at, loads_all, loaded_read, loads_defect, passed_defect}
 use Rattle.xdb_merge.proofs.source.load_all.Goals as goal

@@ -9,4 +9,4 @@ pub returns-in_err-load-clause-defect : goal.returns-in_err-load-clause-defect
 returns-in_err-load-clause-defect g c =
     passed_defect g.F.FileRef.bytes (c.args.self.now.view ∷ []) c.from_residual-in_err-load.result c.in_err-load.field-0.0 c.from_residual-in_err-load.ensures
     (subst (λ (w : Walk g.row.F.Denot). NamesDefect g.F.FileRef.bytes (w.view ∷ []) c.in_err-load.field-0.0) c.self.view_is
-      (one_defect g.F.FileRef.bytes c.self.inside.cursor.view c.in_err-load.field-0.0 c.in_err-load.ensures.tells))
+    (one_defect g.F.FileRef.bytes c.self.inside.cursor.view c.in_err-load.field-0.0 c.in_err-load.ensures.tells))
