@@ -10,6 +10,7 @@ use xdb_batch::Batch;
 use xdb_device::{Device, MemDevice, MemFile};
 use xdb_key::{Bound, Entry, Key, KeyRange, Span, Val};
 use xdb_mem::{MemParts, MemQueue};
+use xdb_plain::Place;
 use xdb_table_r::{TableFile, TableNo, View};
 use xdb_table_w::TableWriter;
 
@@ -513,6 +514,37 @@ fn layers_over_one_another(rt: HostRuntime) -> Result<(), Fail> {
         let right = right(rt.alloc(), case)?;
         assert!(rt; right == case.calls.len(), "call {right} of case {at}");
     }
+    Ok(())
+}
+
+fn stands_on(place: &Place, byte: u8) -> bool {
+    match place {
+        Place::On { key } => key.bytes() == [byte].as_slice(),
+        Place::Before | Place::After => false,
+    }
+}
+
+/// Whether the pair before is the last one, and the cursor stands on it then.
+fn goes_to_the_last(
+    alloc: Global,
+    pairs: &mut Merged<MemFile>,
+    dev: &mut MemDevice,
+) -> Result<bool, Fail> {
+    let last = answers(alloc, pairs, dev, Call::Prev, (b'd', 6, b'4'))?;
+    Ok(last && stands_on(pairs.place(), b'd'))
+}
+
+fn begins_behind_on(alloc: Global, dev: &mut MemDevice) -> Result<bool, Fail> {
+    let mut pairs = merged(alloc, dev, &CASES[3])?.with_place(Place::After);
+    goes_to_the_last(alloc, &mut pairs, dev)
+}
+
+#[test]
+fn a_cursor_that_begins_behind(rt: HostRuntime) -> Result<(), Fail> {
+    let alloc = rt.alloc();
+    let mut dev = MemDevice::new(alloc, Vec::new(alloc));
+    let goes = begins_behind_on(alloc, &mut dev)?;
+    assert!(rt; goes);
     Ok(())
 }
 
