@@ -6,13 +6,13 @@ use Rattle.std.proofs.lemmas.Bool.{ne_eqb}
 use Rattle.std.proofs.lemmas.List.Elements.{All-filter, All-push}
 use Rattle.std.proofs.lemmas.List.Folds.{list_any_none}
 use Rattle.xdb_lists.proofs.PlaceLaws.{under-number, under-all}
-use Rattle.xdb_engine.proofs.AskLaws.{plain-found}
 use Rattle.xdb_engine.specs.Asks.{Grounds, IsAsked, IsAskedOf, plain_grounds}
 use Rattle.xdb_engine.specs.Notes.{ask_note}
 use Rattle.xdb_steps.specs.Notes.{plain_note}
+use Rattle.xdb_steps.proofs.Found.{found-mapped}
 use Rattle.xdb_engine.specs.Ends.{after_settle, answer_of, answer_act, settle_act, settle_leaves, settle_note, settle_reply}
 use Rattle.xdb_engine.specs.Questions.{Asking, asking, plain_question, question_of, without}
-use Rattle.xdb_engine.specs.View.{EngineView, plain_of, Adds}
+use Rattle.xdb_engine.specs.View.{EngineView, Adds}
 use Rattle.xdb_order.specs.Desk.{fresh_story}
 use Rattle.xdb_plain.specs.Counts.{is_among}
 use Rattle.xdb_plain.specs.Runs.{Run, question_waits, is_not_yet, IsWaited}
@@ -45,7 +45,7 @@ module _ {F : Type 0} where
 
   pub waits-by : (r : Run) (e : EngineView F) (ask : ℕ) (o : Option (Asking F)) → IsAt r e → KnowsQuestions e → question_of ask e.questions ≡ o → question_waits r ask ≡ waits_for_work o
   waits-by r e ask o at knows there =
-      ap (λ x. is_some x && not (is_among ask r.worked)) (ap (λ p. found_question ask p.questions) at.plain ∙ ap (found_question ask) (sym knows.questions) ∙ plain-found ask e.questions o there)
+      ap (λ x. is_some x && not (is_among ask r.worked)) (ap (λ p. found_question ask p.questions) at.plain ∙ ap (found_question ask) (sym knows.questions) ∙ found-mapped plain_question ask e.questions ∙ ap (option_map plain_question) there)
       ∙ by o there
     where
       by : (o : Option (Asking F)) → question_of ask e.questions ≡ o → (is_some (option_map plain_question o) && not (is_among ask r.worked)) ≡ waits_for_work o
