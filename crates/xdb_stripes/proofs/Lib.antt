@@ -1,0 +1,4 @@
+-- The laws, by topic.
+pub mod AnyLaws
+pub mod StripeLaws
+pub mod KeepLaws
