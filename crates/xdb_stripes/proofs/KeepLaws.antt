@@ -68,7 +68,7 @@ buries-tells : (stripes : List ℕ) (key : List ℕ) (seq : ℕ) (j : Item) → 
 buries-tells stripes key seq (entry k s v) h = absurd (false≢true h)
 buries-tells stripes key seq (span t) h = and_parts (holds t.range key) (outranks stripes t.seq seq) h
 
-same_bounds-tells : (r o : Bounds) → same_bounds r o ≡ true → r ≡ o
+pub same_bounds-tells : (r o : Bounds) → same_bounds r o ≡ true → r ≡ o
 same_bounds-tells r o h =
     let (lo, hi) = and_parts (same_key r.lo o.lo) (same_key r.hi o.hi) h in
     let los = same_key-tells r.lo o.lo lo in

@@ -1,4 +1,6 @@
 -- The laws, by topic.
 pub mod AnyLaws
 pub mod StripeLaws
+pub mod FloorLaws
 pub mod KeepLaws
+pub mod PieceLaws

@@ -1,11 +1,13 @@
--- How code finds what the rules ask: an entry beside the one before it, and a floor cut into disjoint pieces.
+-- How code finds what the rules ask: by the ends of stripes, and by a floor cut into disjoint pieces, each with the number 0.
 use Rattle.std.specs.Prelude.{◌≡◌, ℕ, ◌<◌, ◌^◌, Bool, true, false, not, ◌&&◌, ◌||◌, ◌==◌, List, map, nat_lt, IsTrue}
 use Rattle.std.specs.List.{list_any}
+use Rattle.std.specs.Option.{is_some}
 use Rattle.xdb_key.specs.Bounds.{Bounds, holds, meets}
 use Rattle.xdb_key.specs.Order.{is_below}
 use Rattle.xdb_key.specs.Entries.{Point, Tombstone, tombstone}
 use Rattle.xdb_key.specs.declared.op.Kind.{Kind}
 use Rattle.xdb_key.specs.declared.op.Kind.TheVariants.{Del, Set, SpanDel}
+use Rattle.xdb_rangedel.specs.Cover.{cover_of}
 use Rattle.xdb_rangedel.specs.Content.{same_key}
 use Rattle.xdb_stripes.specs.declared.floor.Floor.{Floor}
 use Rattle.xdb_stripes.specs.declared.floor.FloorIndex.{FloorIndex}
@@ -15,12 +17,13 @@ use Rattle.xdb_stripes.specs.Floors.{floor_holds, floor_meets}
 use Rattle.xdb_stripes.specs.Thinned.{same_bounds}
 
 -- the limit is the end of the stripe of the number
-abbrev pub IsEnd : List ℕ → ℕ → ℕ → Type 0
-IsEnd stripes n limit = (m : ℕ) → m < 2 ^ 56 → outranks stripes m n ≡ (nat_lt n m && nat_lt m limit)
+pub record IsEnd (stripes : List ℕ) (n limit : ℕ) : Type 0 where
+  pub above : n < limit
+  pub same : (m : ℕ) → m < 2 ^ 56 → outranks stripes m n ≡ (nat_lt n m && nat_lt m limit)
 
 abbrev pub index_holds : FloorIndex → List ℕ → Bool
 index_holds Everywhere k = true
-index_holds (Within ts) k = list_any (λ t. holds t.range k) ts
+index_holds (Within ts) k = is_some (cover_of ts k 1)
 
 abbrev pub index_meets : FloorIndex → Bounds → Bool
 index_meets Everywhere range = true

@@ -5,15 +5,13 @@ ghost use Rattle.std.specs.List.{filter, list_any};
 ghost use Rattle.std.specs.List.Sorted.{IsNonDecreasing};
 ghost use Rattle.xdb_key.specs.Bounds.{holds};
 ghost use Rattle.xdb_key.specs.InOrder.{AreInOrder};
-ghost use Rattle.xdb_rangedel.specs.Content.{same_key, entry_of};
-ghost use Rattle.xdb_stripes.specs.Stripes.{stripe};
-ghost use Rattle.xdb_stripes.specs.Thinned.{is_spent};
-ghost use Rattle.xdb_stripes.specs.Steps.{IsIndex, index_holds, is_kept_entry, is_lost_delete};
+ghost use Rattle.xdb_rangedel.specs.Content.{same_key};
+ghost use Rattle.xdb_stripes.specs.Steps.{IsEnd, buries_entry, is_kept_entry, is_lost_delete};
 
 use crate::floor::FloorIndex;
 use crate::stripes::{end_of_stripe, is_lowest};
 use std::alloc::{AllocError, Global};
-use xdb_key::{Entry, Kind};
+use xdb_key::{Entry, Key, Kind};
 use xdb_rangedel::Fragments;
 
 /// The entries that stay, in their order.
@@ -35,28 +33,53 @@ pub fn staying(
         let entry = &entries[at];
         let end = end_of_stripe(stripes, entry.seq());
         shadowed = at > 0 && is_shadowed(entry, &entries[at - 1], shadowed, end);
-        if !shadowed && !is_buried(entry, spans, end) && !is_spent(entry, stripes, floor) {
+        if !shadowed && stays(entry, spans, stripes, end, floor) {
             kept.push(entry.copy()?)?;
         }
     }
     Ok(kept)
 }
 
-/// Whether a newer entry of the key and the stripe shadows the entry, as told by the entry before it: that
-/// one does, or has the same number and is shadowed itself. `end` is the end of the stripe.
+/// Whether a newer entry of the key in the stripe shadows the entry, as told by the entry before it: that
+/// one does, or it has the same number and is shadowed itself. `end` is the end of the stripe.
 fn is_shadowed(entry: &Entry, before: &Entry, before_is: bool, end: u64) -> bool
     ensures { result ≡ (same_key before.now.key entry.now.key && nat_lt before.now.seq end
         && (nat_lt entry.now.seq before.now.seq || before_is)) }
 {
-    before.key().same(entry.key())
+    is_same_key(before.key(), entry.key())
         && before.seq() < end
         && (entry.seq() < before.seq() || before_is)
 }
 
-/// Whether a span with a greater number, below the end of the stripe, holds the key.
+fn is_same_key(a: &Key, b: &Key) -> bool
+    ensures { result ≡ same_key a.now b.now }
+{
+    a.same(b)
+}
+
+/// Whether no span of the stripe, which has this end, takes the entry out, and it isn't a delete that
+/// hides nothing.
+fn stays(
+    entry: &Entry,
+    spans: &Fragments,
+    stripes: &[u64],
+    end: u64,
+    floor: &FloorIndex,
+) -> bool
+    requires rising { IsNonDecreasing stripes.now }
+    requires end { IsEnd stripes.now entry.now.seq end }
+    ensures { result ≡ not (list_any (buries_entry stripes.now entry.now) spans.now
+        || is_lost_delete stripes.now floor.now entry.now) }
+{
+    // That the numbers of the spans are small comes with their list.
+    let _spans = spans.list();
+    !is_buried(entry, spans, end) && !is_spent(entry, stripes, floor)
+}
+
+/// Whether a span with a greater number, below the end, holds the key.
 fn is_buried(entry: &Entry, spans: &Fragments, end: u64) -> bool
-    ensures { result ≡ list_any (λ t. holds t.range entry.now.key && (nat_lt entry.now.seq t.seq
-        && nat_lt t.seq end)) spans.now }
+    ensures { result ≡ list_any (λ t. holds t.range entry.now.key
+        && (nat_lt entry.now.seq t.seq && nat_lt t.seq end)) spans.now }
 {
     match spans.cover(entry.key(), end) {
         Some(seq) => entry.seq() < seq,

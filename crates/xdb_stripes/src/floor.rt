@@ -1,5 +1,5 @@
-ghost use Rattle.std.specs.Prelude.{◌≡◌, ℕ, List, IsTrue, IfOk};
-ghost use Rattle.std.specs.List.{list_any};
+ghost use Rattle.std.specs.Prelude.{◌≡◌, ℕ, List, IsTrue, IfOk, OnOk};
+ghost use Rattle.std.specs.List.{All, list_any};
 ghost use Rattle.xdb_key.specs.Bounds.{Bounds, meets};
 ghost use Rattle.xdb_key.specs.Entries.{Tombstone, tombstone};
 ghost use Rattle.xdb_key.specs.Order.{is_below};
@@ -48,7 +48,8 @@ pub enum Floor {
     Ranges(KeyRanges),
 }
 
-/// A floor cut into disjoint pieces, so that a key or a range is found by one binary search.
+/// A floor cut into disjoint pieces, each with the number 0, so that a key or a range is found by one
+/// binary search.
 #[derive(Debug, Drop)]
 pub enum FloorIndex {
     Everywhere,
@@ -71,10 +72,13 @@ pub fn index(alloc: Global, floor: &Floor) -> Result<FloorIndex, AllocError>
 
 /// A span over each range. All have the number 0.
 fn spans(alloc: Global, ranges: &[KeyRange]) -> Result<Vec<Span>, AllocError>
-    ensures { IfOk result (λ spans. spans.items ≡ at_zero ranges.now) }
+    ensures spans { IfOk result (λ spans. spans.items ≡ at_zero ranges.now) }
+    ensures ordered { OnOk result (All (λ r. IsTrue (is_below r.lo r.hi)) ranges.now) }
 {
     let mut spans = Vec::with_capacity(alloc, ranges.len())?;
     for range in ranges {
+        // That a range starts before it ends comes with its start.
+        let _lo = range.lo();
         spans.push(Span::new(range.copy()?, 0))?;
     }
     Ok(spans)
@@ -87,7 +91,7 @@ impl FloorIndex {
     {
         match self {
             FloorIndex::Everywhere => true,
-            FloorIndex::Within(pieces) => pieces.cover(key, u64::MAX).is_some(),
+            FloorIndex::Within(pieces) => pieces.cover(key, 1).is_some(),
         }
     }
 

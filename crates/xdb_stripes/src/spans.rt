@@ -1,7 +1,7 @@
 //! Which fragments stay. Those with equal bounds stand beside each other, the greatest number first, so the
 //! one before a fragment tells whether another is left over the piece.
-ghost use Rattle.std.specs.Prelude.{◌≡◌, ◌&&◌, ◌==◌, nat_lt, not, IfOk};
-ghost use Rattle.std.specs.List.{filter};
+ghost use Rattle.std.specs.Prelude.{◌≡◌, ◌<◌, ◌^◌, ◌&&◌, nat_lt, IfOk};
+ghost use Rattle.std.specs.List.{All, filter};
 ghost use Rattle.std.specs.List.Sorted.{IsNonDecreasing};
 ghost use Rattle.xdb_rangedel.specs.Pieces.{AreFragments};
 ghost use Rattle.xdb_stripes.specs.Thinned.{same_bounds};
@@ -10,7 +10,7 @@ ghost use Rattle.xdb_stripes.specs.Steps.{is_kept_span, is_lost_span};
 use crate::floor::FloorIndex;
 use crate::stripes::{end_of_stripe, is_lowest};
 use std::alloc::{AllocError, Global};
-use xdb_key::Span;
+use xdb_key::{KeyRange, Span};
 use xdb_rangedel::Fragments;
 
 /// The fragments that stay, in their order.
@@ -34,6 +34,7 @@ fn picked(
     floor: &FloorIndex,
 ) -> Result<Vec<Span>, AllocError>
     requires fragments { AreFragments spans.now }
+    requires small { All (λ t. t.seq < 2 ^ 56) spans.now }
     requires rising { IsNonDecreasing stripes.now }
     ensures { IfOk result (λ kept. kept.items
         ≡ filter (is_kept_span stripes.now floor.now spans.now) spans.now) }
@@ -54,7 +55,13 @@ fn picked(
 fn is_repeated(span: &Span, before: &Span, end: u64) -> bool
     ensures { result ≡ (same_bounds before.now.range span.now.range && nat_lt before.now.seq end) }
 {
-    before.range().same(span.range()) && before.seq() < end
+    is_same_range(before.range(), span.range()) && before.seq() < end
+}
+
+fn is_same_range(a: &KeyRange, b: &KeyRange) -> bool
+    ensures { result ≡ same_bounds a.now b.now }
+{
+    a.same(b)
 }
 
 /// Whether it lies below all stripes and meets no range of the floor.
