@@ -1,6 +1,8 @@
 -- Tests of some element and filters, by what a list holds.
-use Rattle.std.proofs.Common.{◌≡◌, ℕ, Bool, true, false, not, ◌||◌, List, [], ◌∷◌, ◌++◌, map, inl, inr, refl, sym, ap, ◌∙◌}
+use Rattle.std.proofs.Common.{◌≡◌, ℕ, Bool, true, false, not, ◌||◌, cond, ◌+◌, ◌<◌, List, [], ◌∷◌, ◌++◌, length, get_or, take, map, inl, inr, refl, sym, ap, ◌∙◌}
 use Rattle.std.proofs.lemmas.Bool.{cases_Bool, or_cases, or_left, or_right, false≢true, true≢false}
+use Rattle.std.proofs.lemmas.List.{append-nil}
+use Rattle.std.proofs.lemmas.List.Elements.{filter_more}
 use Rattle.std.specs.List.{list_any, filter}
 use Rattle.xdb_rangedel.specs.Members.{Has, SameMembers}
 
@@ -81,3 +83,27 @@ filter-same p q xs ys agree same = λ x. (
   (λ h. let from = Has-from_filter p xs x h in Has-filter q ys x ((same x).0 from.0) (sym (agree x) ∙ from.1)),
   (λ h. let from = Has-from_filter q ys x h in Has-filter p xs x ((same x).1 from.0) (agree x ∙ from.1)),
 )
+
+-- a loop that keeps what passes
+
+pub filter_kept : {A : Type 0} (p : A → Bool) (xs : List A) (i : ℕ) (x y : A) (old new : List A) → i < length xs → x ≡ get_or xs i x → p x ≡ true → old ≡ filter p (take i xs) → y ≡ x → new ≡ old ++ y ∷ [] → new ≡ filter p (take (i + 1) xs)
+filter_kept p xs i x y old new inside at pass was same added =
+    added ∙ (λ j. was j ++ same j ∷ []) ∙ sym (filter_more p xs i x inside ∙ ap (λ z. filter p (take i xs) ++ cond (p z) (z ∷ []) []) (sym at) ∙ ap (λ b. filter p (take i xs) ++ cond b (x ∷ []) []) pass)
+
+pub filter_left : {A : Type 0} (p : A → Bool) (xs : List A) (i : ℕ) (x : A) (old : List A) → i < length xs → x ≡ get_or xs i x → p x ≡ false → old ≡ filter p (take i xs) → old ≡ filter p (take (i + 1) xs)
+filter_left p xs i x old inside at pass was =
+    was ∙ sym (filter_more p xs i x inside ∙ ap (λ z. filter p (take i xs) ++ cond (p z) (z ∷ []) []) (sym at) ∙ ap (λ b. filter p (take i xs) ++ cond b (x ∷ []) []) pass ∙ append-nil (filter p (take i xs)))
+
+-- an element stays where neither test holds
+
+pub stays_if : (a b first rest : Bool) → first ≡ a → first ≡ false → rest ≡ not b → rest ≡ true → not (a || b) ≡ true
+stays_if true b first rest e f g h = absurd (false≢true (sym f ∙ e))
+stays_if false b first rest e f g h = sym g ∙ h
+
+pub goes_by_first : (a b first : Bool) → first ≡ a → first ≡ true → not (a || b) ≡ false
+goes_by_first true b first e f = refl
+goes_by_first false b first e f = absurd (false≢true (sym e ∙ f))
+
+pub goes_by_rest : (a b rest : Bool) → rest ≡ not b → rest ≡ false → not (a || b) ≡ false
+goes_by_rest true b rest g h = refl
+goes_by_rest false b rest g h = sym g ∙ h

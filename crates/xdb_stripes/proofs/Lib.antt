@@ -3,4 +3,6 @@ pub mod AnyLaws
 pub mod StripeLaws
 pub mod FloorLaws
 pub mod KeepLaws
-pub mod PieceLaws
+pub mod EntryLaws
+pub mod RepeatLaws
+pub mod ThinLaws

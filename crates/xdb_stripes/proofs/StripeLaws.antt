@@ -125,3 +125,15 @@ lowest (s ∷ ss) n rising h = elim (cases_lt n s) [
       lt-ltb n s below ∙ sym (eq-eqb (stripe (s ∷ ss) n) 0 none)
   | inr above ↦ le-ltb n s above ∙ sym (ne_eqb (stripe (s ∷ ss) n) 0 (λ e. absurd (omega (arith, counts s n above))))
 ]
+
+-- ends of stripes, used
+
+pub outranks-from : (ss : List ℕ) (m n : ℕ) → n < m → stripe ss m ≡ stripe ss n → outranks ss m n ≡ true
+outranks-from ss m n less same = and_from (ltb n m) (stripe ss m == stripe ss n) (lt-ltb n m less) (eq-eqb (stripe ss m) (stripe ss n) same)
+
+-- what outranks a number lies before the end of its stripe, and what lies between the two outranks it
+pub ended : (ss : List ℕ) (m n limit : ℕ) → IsEnd ss n limit → m < 2 ^ 56 → outranks ss m n ≡ true → ltb m limit ≡ true
+ended ss m n limit end small h = (and_parts (ltb n m) (ltb m limit) (sym (end.same m small) ∙ h)).1
+
+pub within : (ss : List ℕ) (m n limit : ℕ) → IsEnd ss n limit → m < 2 ^ 56 → n < m → ltb m limit ≡ true → outranks ss m n ≡ true
+within ss m n limit end small more less = end.same m small ∙ and_from (ltb n m) (ltb m limit) (lt-ltb n m more) less

@@ -41,6 +41,8 @@ pub fn thin(
     ensures order { IfOk result (λ left. AreInOrder left.0.items) }
     ensures fragments { IfOk result (λ left. AreFragments left.1) }
 {
+    // That the spans are fragments comes with their list.
+    let _spans = spans.list();
     let floor = floor::index(alloc, floor)?;
     let left = entries::staying(alloc, entries, spans, stripes, &floor)?;
     let over = fragments::staying(alloc, spans, stripes, &floor)?;

@@ -1,5 +1,5 @@
 -- What is left to answer of `is_same_key`.
-use Rattle.xdb_stripes.proofs.PieceLaws.{same_key-is}
+use Rattle.xdb_stripes.proofs.EntryLaws.{same_key-is}
 use Rattle.xdb_stripes.proofs.entries.is_same_key.Goals as goal
 
 pub returns : goal.returns

@@ -1,5 +1,5 @@
 -- What is left to answer of `is_same_range`.
-use Rattle.xdb_stripes.proofs.PieceLaws.{same_bounds-is}
+use Rattle.xdb_stripes.proofs.RepeatLaws.{same_bounds-is}
 use Rattle.xdb_stripes.proofs.spans.is_same_range.Goals as goal
 
 pub returns : goal.returns

@@ -1,5 +1,5 @@
--- What the rules say of entries in internal order and of fragments: the one before tells all.
-use Rattle.std.proofs.Common.{◌≡◌, ℕ, zero, suc, ◌+◌, ◌<◌, ◌≤◌, Bool, true, false, not, ◌&&◌, ◌||◌, ◌==◌, ◌^◌, cond, ltb, List, [], ◌∷◌, ◌++◌, length, get_or, take, map, Option, Some, None, inl, inr, ◌⊎◌, IsTrue, refl, sym, ap, ◌∙◌, subst, arith}
+-- Entries in internal order: the one before an entry tells whether a newer one shadows it.
+use Rattle.std.proofs.Common.{◌≡◌, ℕ, ◌+◌, ◌-◌, ◌<◌, ◌≤◌, Bool, true, false, not, ◌&&◌, ◌||◌, ◌==◌, ◌^◌, cond, ltb, List, [], ◌∷◌, ◌++◌, length, get_or, take, map, Option, Some, None, inl, inr, ◌⊎◌, IsTrue, refl, sym, ap, ◌∙◌, subst, arith}
 use Rattle.std.proofs.lemmas.Bool.{cases_Bool, cases_lt, cases_order, and_parts, and_from, and_left, and_right, or_cases, or_left, or_right, or_from, lt-ltb, le-ltb, ltb-true, ltb-false, eqb-true, eq-eqb, false≢true, true≢false, false_from_ne_true}
 use Rattle.std.proofs.lemmas.List.{get_or_default}
 use Rattle.std.specs.List.{All, list_any, filter}
@@ -18,11 +18,15 @@ use Rattle.xdb_key.proofs.OrderLaws.{key_total, upto-itself, below-itself, upto_
 use Rattle.xdb_key.proofs.InOrderLaws.{before_keys}
 use Rattle.xdb_rangedel.specs.Members.{Has, SameMembers}
 use Rattle.xdb_rangedel.specs.Pieces.{AreFragments, precedes, is_ordered, pieces}
-use Rattle.xdb_rangedel.specs.Content.{Item, entry, span, same_key, entry_of, content_of, entries_in, spans_in, in_pieces}
-use Rattle.xdb_rangedel.proofs.MemberLaws.{Contains-from_Has, Has-get_or}
+use Rattle.xdb_rangedel.specs.Content.{Item, entry, span, same_key, value_at, entry_of, content_of, entries_in, spans_in, in_pieces}
+use Rattle.xdb_rangedel.proofs.MemberLaws.{Contains-from_Has, Has-get_or, Has-append_cases, Has-append_left, Has-append_right, Has-map, Has-from_map}
 use Rattle.xdb_rangedel.proofs.NewestLaws.{same_key-tells, same_key-itself}
 use Rattle.xdb_rangedel.proofs.PartLaws.{precedes_tells}
 use Rattle.xdb_rangedel.proofs.FragmentLaws.{All-at_Has}
+use Rattle.xdb_rangedel.proofs.OnlyLaws.{fragments_themselves}
+use Rattle.xdb_rangedel.proofs.SpanLaws.{entries_in-content_of, spans_in-content_of}
+use Rattle.std.proofs.lemmas.List.Elements.{filter-append}
+use Rattle.std.proofs.lemmas.List.Folds.{list_any-append}
 use Rattle.xdb_stripes.specs.Stripes.{stripe, outranks}
 use Rattle.xdb_stripes.specs.declared.floor.Floor.{Floor}
 use Rattle.xdb_stripes.specs.declared.floor.FloorIndex.{FloorIndex}
@@ -30,7 +34,7 @@ use Rattle.xdb_stripes.specs.Floors.{floor_holds, floor_meets}
 use Rattle.xdb_stripes.specs.Thinned.{same_bounds, shadows, buries, repeats, is_spent, stays, thinned, staying_entries, staying_spans}
 use Rattle.xdb_stripes.specs.Steps.{IsEnd, IsIndex, index_holds, index_meets, shadows_entry, buries_entry, repeats_span, is_delete, is_lost_delete, is_lost_span, is_kept_entry, is_kept_span}
 use Rattle.xdb_stripes.proofs.AnyLaws.{both_ways, any-has, any-from, any_along, any-map, any-never, any-same, filter_along, filter-map, filter-same}
-use Rattle.xdb_stripes.proofs.StripeLaws.{outranks-tells, stripe_rises}
+use Rattle.xdb_stripes.proofs.StripeLaws.{outranks-tells, outranks-from, ended, within, stripe_rises}
 use Rattle.xdb_stripes.proofs.KeepLaws.{same_bounds-tells}
 
 -- internal order at one key
@@ -64,20 +68,8 @@ falls p q same before =
     let cq = code_small q.kind in
     omega arith
 
-same_key-from : (a b : List ℕ) → a ≡ b → same_key a b ≡ true
+pub same_key-from : (a b : List ℕ) → a ≡ b → same_key a b ≡ true
 same_key-from a b e = ap (same_key a) (sym e) ∙ same_key-itself a
-
-outranks-from : (ss : List ℕ) (m n : ℕ) → n < m → stripe ss m ≡ stripe ss n → outranks ss m n ≡ true
-outranks-from ss m n less same = and_from (ltb n m) (stripe ss m == stripe ss n) (lt-ltb n m less) (eq-eqb (stripe ss m) (stripe ss n) same)
-
--- what outranks a number lies before the end of its stripe, and what lies between the two outranks it
-ended : (ss : List ℕ) (m n limit : ℕ) → IsEnd ss n limit → m < 2 ^ 56 → outranks ss m n ≡ true → ltb m limit ≡ true
-ended ss m n limit end small h = (and_parts (ltb n m) (ltb m limit) (sym (end.same m small) ∙ h)).1
-
-within : (ss : List ℕ) (m n limit : ℕ) → IsEnd ss n limit → m < 2 ^ 56 → n < m → ltb m limit ≡ true → outranks ss m n ≡ true
-within ss m n limit end small more less = end.same m small ∙ and_from (ltb n m) (ltb m limit) (lt-ltb n m more) less
-
--- ---- entries
 
 -- an entry q, and p before it
 record Neighbours (ps : List Point) (i : ℕ) (p q : Point) : Type 0 where
@@ -203,120 +195,32 @@ shadowed_next ss ps i p q limit before order inside at_p at_q end small was =
     ap (λ b. same_key p.key q.key && ltb p.seq limit && (ltb q.seq p.seq || b)) was
     ∙ both_ways (shadow_code p q limit (list_any (shadows_entry ss p) ps)) (list_any (shadows_entry ss q) ps) (shadow_to ss ps i p q limit n e) (shadow_from ss ps i p q limit n e)
 
--- two tests of sameness
-
 pub same_key-is : (a b : List ℕ) (r : Bool) → (r ≡ true → a ≡ b) → (a ≡ b → r ≡ true) → r ≡ same_key a b
 same_key-is a b r to from = both_ways r (same_key a b) (λ h. same_key-from a b (to h)) (λ h. from (same_key-tells a b h))
-
-same_bounds-from : (r o : Bounds) → r ≡ o → same_bounds r o ≡ true
-same_bounds-from r o e = and_from (same_key r.lo o.lo) (same_key r.hi o.hi) (same_key-from r.lo o.lo (ap (λ x. x.lo) e)) (same_key-from r.hi o.hi (ap (λ x. x.hi) e))
-
-pub same_bounds-is : (r o : Bounds) (b : Bool) → (b ≡ true → r ≡ o) → (r ≡ o → b ≡ true) → b ≡ same_bounds r o
-same_bounds-is r o b to from = both_ways b (same_bounds r o) (λ h. same_bounds-from r o (to h)) (λ h. from (same_bounds-tells r o h))
 
 -- the spans that bury an entry, told by the end of its stripe
 pub buries-ended : (ss : List ℕ) (p : Point) (limit : ℕ) (ts : List Tombstone) → IsEnd ss p.seq limit → All (λ t. t.seq < 2 ^ 56) ts → list_any (λ t. holds t.range p.key && (ltb p.seq t.seq && ltb t.seq limit)) ts ≡ list_any (buries_entry ss p) ts
 buries-ended ss p limit ts end small = any_along (λ t. holds t.range p.key && (ltb p.seq t.seq && ltb t.seq limit)) (buries_entry ss p) ts (λ t h.
     ap (λ b. holds t.range p.key && b) (sym (end.same t.seq (All-at_Has (λ x. x.seq < 2 ^ 56) ts t small h))))
 
--- ---- spans
+-- the same where the place of the entry is told
+pub shadow_told : (ss : List ℕ) (ps : List Point) (at : ℕ) (p q : Point) (n limit : ℕ) (before : Bool) → AreInOrder ps → 0 < at → at < length ps → p ≡ get_or ps (at - 1) p → q ≡ get_or ps at q → IsEnd ss n limit → n ≡ q.seq → ((d : Point) → 0 < at → (get_or ps (at - 1) d).seq < 2 ^ 56) → ((d : Point) → 0 < at → before ≡ list_any (shadows_entry ss (get_or ps (at - 1) d)) ps) → (same_key p.key q.key && ltb p.seq limit && (ltb q.seq p.seq || before)) ≡ list_any (shadows_entry ss q) ps
+shadow_told ss ps at p q n limit before order some inside at_p at_q end seqs small was =
+    let place : at ≡ (at - 1) + 1 = omega arith in
+    shadowed_next ss ps (at - 1) p q limit before order (omega arith) at_p (at_q ∙ ap (λ m. get_or ps m q) place) (subst (λ m. IsEnd ss m limit) seqs end) (subst (λ (x : Point). x.seq < 2 ^ 56) (sym at_p) (small p some)) (was p some ∙ ap (λ x. list_any (shadows_entry ss x) ps) (sym at_p))
 
-no_less_itself : (a b : List ℕ) → is_below a b ≡ true → is_upto b a ≡ true → ⊥
-no_less_itself a b less back = false≢true (sym (below-itself a) ∙ below_upto a b a less back)
+pub shadow_first : (ss : List ℕ) (ps : List Point) (at : ℕ) (q : Point) → AreInOrder ps → at ≤ 0 → at < length ps → q ≡ get_or ps at q → false ≡ list_any (shadows_entry ss q) ps
+shadow_first ss ps at q order none inside at_q =
+    let place : at ≡ 0 = omega arith in
+    sym (shadowed_none ss ps q order (omega arith) (ap (λ m. get_or ps m q) (sym place) ∙ sym at_q))
 
--- two neighbours among fragments
-record Beside (ts : List Tombstone) (i : ℕ) (s t : Tombstone) : Type 0 where
-  fragments : AreFragments ts
-  inside : i + 1 < length ts
-  first : (d : Tombstone) → get_or ts i d ≡ s
-  second : (d : Tombstone) → get_or ts (i + 1) d ≡ t
+-- what is known of an entry, asked one step later
+pub shadow_kept : (ss : List ℕ) (ps : List Point) (at : ℕ) (q : Point) (shadowed : Bool) → at < length ps → q ≡ get_or ps at q → shadowed ≡ list_any (shadows_entry ss q) ps → (d : Point) → 0 < at + 1 → shadowed ≡ list_any (shadows_entry ss (get_or ps (at + 1 - 1) d)) ps
+shadow_kept ss ps at q shadowed inside at_q h d some =
+    let place : at + 1 - 1 ≡ at = omega arith in
+    h ∙ ap (λ x. list_any (shadows_entry ss x) ps) (sym (ap (λ m. get_or ps m d) place ∙ get_or_default ps at d q inside ∙ sym at_q))
 
-ordered_in : (ts : List Tombstone) (i : ℕ) (t : Tombstone) → AreFragments ts → i < length ts → get_or ts i t ≡ t → is_below t.range.lo t.range.hi ≡ true
-ordered_in ts i t f inside at = sym (ap is_ordered at) ∙ f.ordered i t inside
-
--- of two fragments with equal bounds the first has the greater number
-same_falls : (ts : List Tombstone) (i j : ℕ) (s t : Tombstone) → AreFragments ts → i < j → j < length ts → get_or ts i s ≡ s → get_or ts j t ≡ t → s.range ≡ t.range → t.seq < s.seq
-same_falls ts i j s t f less inside at_s at_t same =
-    let at : get_or ts i t ≡ s = get_or_default ts i t s (omega arith) ∙ at_s in
-    elim (precedes_tells s t (sym (λ x. precedes (at x) (at_t x)) ∙ f.apart i j t less inside)) [
-      | inl (ranges, number) ↦ number
-      | inr apart ↦ absurd (no_less_itself t.range.lo t.range.hi (ordered_in ts j t f inside at_t) (sym (ap (λ (r : Bounds). is_upto r.hi t.range.lo) same) ∙ apart))
-    ]
-
--- a fragment between two with equal bounds has them too
-same_between : (ts : List Tombstone) (i j n : ℕ) (s m t : Tombstone) → AreFragments ts → i < j → j < n → n < length ts → get_or ts i s ≡ s → get_or ts j m ≡ m → get_or ts n t ≡ t → s.range ≡ t.range → s.range ≡ m.range
-same_between ts i j n s m t f a b inside at_s at_m at_t same =
-    let os = ordered_in ts i s f (omega arith) at_s in
-    let om = ordered_in ts j m f (omega arith) at_m in
-    let s_at : get_or ts i m ≡ s = get_or_default ts i m s (omega arith) ∙ at_s in
-    let m_at : get_or ts j t ≡ m = get_or_default ts j t m (omega arith) ∙ at_m in
-    elim (precedes_tells s m (sym (λ x. precedes (s_at x) (at_m x)) ∙ f.apart i j m a (omega arith))) [
-      | inl (ranges, number) ↦ ranges
-      | inr apart ↦
-          let less : is_below s.range.lo m.range.hi ≡ true = below_upto s.range.lo m.range.lo m.range.hi (below_upto s.range.lo s.range.hi m.range.lo os apart) (upto_from_below m.range.lo m.range.hi om) in
-          elim (precedes_tells m t (sym (λ x. precedes (m_at x) (at_t x)) ∙ f.apart j n t b inside)) [
-            | inl (ranges, number) ↦ absurd (no_less_itself s.range.lo s.range.hi os (subst (λ (r : Bounds). is_upto s.range.hi r.lo ≡ true) (ranges ∙ sym same) apart))
-            | inr later ↦ absurd (no_less_itself s.range.lo m.range.hi less (subst (λ (r : Bounds). is_upto m.range.hi r.lo ≡ true) (sym same) later))
-          ]
-    ]
-
-repeats_first : (ss : List ℕ) (ts : List Tombstone) (i j : ℕ) (t u : Tombstone) → AreFragments ts → i < length ts → get_or ts i t ≡ t → j < length ts → get_or ts j u ≡ u → repeats_span ss t u ≡ true → j < i
-repeats_first ss ts i j t u f at_i is_t at_j is_u h =
-    let (bounds, over) = and_parts (same_bounds u.range t.range) (outranks ss u.seq t.seq) h in
-    let more : t.seq < u.seq = (outranks-tells ss u.seq t.seq over).0 in
-    elim (cases_order i j) [
-      | inl same ↦
-          let one : t ≡ u = sym is_t ∙ get_or_default ts i t u at_i ∙ ap (λ n. get_or ts n u) same ∙ is_u in
-          let seqs : t.seq ≡ u.seq = ap (λ (x : Tombstone). x.seq) one in
-          absurd (omega arith)
-      | inr (inl less) ↦
-          let low : u.seq < t.seq = same_falls ts i j t u f less at_j is_t is_u (sym (same_bounds-tells u.range t.range bounds)) in
-          absurd (omega arith)
-      | inr (inr earlier) ↦ earlier
-    ]
-
-pub repeated_none : (ss : List ℕ) (ts : List Tombstone) (t : Tombstone) → AreFragments ts → 0 < length ts → get_or ts 0 t ≡ t → list_any (repeats_span ss t) ts ≡ false
-repeated_none ss ts t f inside is_t = false_from_ne_true (list_any (repeats_span ss t) ts) (λ h.
-    let from = any-has (repeats_span ss t) ts h in
-    let (j, at_j, is_u) = Contains-from_Has ts from.0 from.1 in
-    let low : j < 0 = repeats_first ss ts 0 j t from.0 f inside is_t at_j is_u from.2 in
-    omega arith)
-
-repeat_to : (ss : List ℕ) (ts : List Tombstone) (i : ℕ) (s t : Tombstone) (limit : ℕ) → Beside ts i s t → IsEnd ss t.seq limit → s.seq < 2 ^ 56 → (same_bounds s.range t.range && ltb s.seq limit) ≡ true → list_any (repeats_span ss t) ts ≡ true
-repeat_to ss ts i s t limit b end small h =
-    let (bounds, less) = and_parts (same_bounds s.range t.range) (ltb s.seq limit) h in
-    let more : t.seq < s.seq = same_falls ts i (i + 1) s t b.fragments (omega arith) b.inside (b.first s) (b.second t) (same_bounds-tells s.range t.range bounds) in
-    let has : Has ts s = subst (λ x. Has ts x) (b.first s) (Has-get_or ts i s (let g = b.inside in omega arith)) in
-    any-from (repeats_span ss t) ts s has (and_from (same_bounds s.range t.range) (outranks ss s.seq t.seq) bounds (within ss s.seq t.seq limit end small more less))
-
-repeat_from : (ss : List ℕ) (ts : List Tombstone) (i : ℕ) (s t : Tombstone) (limit : ℕ) → Beside ts i s t → IsEnd ss t.seq limit → s.seq < 2 ^ 56 → list_any (repeats_span ss t) ts ≡ true → (same_bounds s.range t.range && ltb s.seq limit) ≡ true
-repeat_from ss ts i s t limit b end small h =
-    let from = any-has (repeats_span ss t) ts h in
-    let u = from.0 in
-    let (bounds, over) = and_parts (same_bounds u.range t.range) (outranks ss u.seq t.seq) from.2 in
-    let tells = outranks-tells ss u.seq t.seq over in
-    let (j, at_j, is_u) = Contains-from_Has ts u from.1 in
-    let earlier : j < i + 1 = repeats_first ss ts (i + 1) j t u b.fragments b.inside (b.second t) at_j is_u from.2 in
-    elim (cases_order j i) [
-      | inl same ↦
-          let one : u ≡ s = sym is_u ∙ ap (λ n. get_or ts n u) same ∙ b.first u in
-          and_from (same_bounds s.range t.range) (ltb s.seq limit) (sym (ap (λ (x : Tombstone). same_bounds x.range t.range) one) ∙ bounds)
-          (ended ss s.seq t.seq limit end small (sym (ap (λ (x : Tombstone). outranks ss x.seq t.seq) one) ∙ over))
-      | inr (inl less) ↦
-          let ranges = same_bounds-tells u.range t.range bounds in
-          let mid : u.range ≡ s.range = same_between ts j i (i + 1) u s t b.fragments less (omega arith) b.inside is_u (b.first s) (b.second t) ranges in
-          let same : s.range ≡ t.range = sym mid ∙ ranges in
-          let low : t.seq < s.seq = same_falls ts i (i + 1) s t b.fragments (omega arith) b.inside (b.first s) (b.second t) same in
-          let high : s.seq < u.seq = same_falls ts j i u s b.fragments less (let g = b.inside in omega arith) is_u (b.first s) mid in
-          let up = stripe_rises ss s.seq u.seq (omega arith) in
-          let down = stripe_rises ss t.seq s.seq (omega arith) in
-          let level = tells.1 in
-          and_from (same_bounds s.range t.range) (ltb s.seq limit) (same_bounds-from s.range t.range same) (ended ss s.seq t.seq limit end small (outranks-from ss s.seq t.seq low (omega arith)))
-      | inr (inr behind) ↦ absurd (omega arith)
-    ]
-
--- the fragment before one tells whether another is left over the piece
-pub repeated_next : (ss : List ℕ) (ts : List Tombstone) (i : ℕ) (s t : Tombstone) (limit : ℕ) → AreFragments ts → i + 1 < length ts → s ≡ get_or ts i s → t ≡ get_or ts (i + 1) t → IsEnd ss t.seq limit → s.seq < 2 ^ 56 → (same_bounds s.range t.range && ltb s.seq limit) ≡ list_any (repeats_span ss t) ts
-repeated_next ss ts i s t limit f inside at_s at_t end small =
-    let b : Beside ts i s t = record { fragments = f; inside = inside; first = λ d. get_or_default ts i d s (omega arith) ∙ sym at_s; second = λ d. get_or_default ts (i + 1) d t inside ∙ sym at_t } in
-    both_ways (same_bounds s.range t.range && ltb s.seq limit) (list_any (repeats_span ss t) ts) (repeat_to ss ts i s t limit b end small) (repeat_from ss ts i s t limit b end small)
+pub small_kept : (ps : List Point) (at : ℕ) (q : Point) → at < length ps → q ≡ get_or ps at q → q.seq < 2 ^ 56 → (d : Point) → 0 < at + 1 → (get_or ps (at + 1 - 1) d).seq < 2 ^ 56
+small_kept ps at q inside at_q small d some =
+    let place : at + 1 - 1 ≡ at = omega arith in
+    subst (λ (x : Point). x.seq < 2 ^ 56) (sym (ap (λ m. get_or ps m d) place ∙ get_or_default ps at d q inside ∙ sym at_q)) small
