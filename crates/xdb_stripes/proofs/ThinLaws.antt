@@ -79,8 +79,8 @@ grouped false false d = refl
 pub stays-entry : (ss : List ℕ) (floor : Floor) (index : FloorIndex) (ps : List Point) (ts : List Tombstone) (p : Point) → Asked ts floor index → is_kept_entry ss index ps ts p ≡ stays ss floor (in_pieces (content_of ps ts)) (entry_of p)
 stays-entry ss floor index ps ts p asked = sym (
     (λ i. not (((any-entries (shadows ss p.key p.seq) (shadows_entry ss p) ps ts (λ x. refl) (λ t. refl) i
-        || any-spans (buries ss p.key p.seq) (buries_entry ss p) ps ts asked.fragments (λ x. refl) (λ t. refl) i) || false)
-        || spent_by_kind ss floor index p.key p.seq p.value p.kind asked.answers i))
+    || any-spans (buries ss p.key p.seq) (buries_entry ss p) ps ts asked.fragments (λ x. refl) (λ t. refl) i) || false)
+    || spent_by_kind ss floor index p.key p.seq p.value p.kind asked.answers i))
     ∙ grouped (list_any (shadows_entry ss p) ps) (list_any (buries_entry ss p) ts) (is_lost_delete ss index p))
 
 pub stays-span : (ss : List ℕ) (floor : Floor) (index : FloorIndex) (ps : List Point) (ts : List Tombstone) (t : Tombstone) → Asked ts floor index → is_ordered t ≡ true → is_kept_span ss index ts t ≡ stays ss floor (in_pieces (content_of ps ts)) (span t)

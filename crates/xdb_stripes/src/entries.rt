@@ -59,13 +59,7 @@ fn is_same_key(a: &Key, b: &Key) -> bool
 
 /// Whether no span of the stripe, which has this end, takes the entry out, and it isn't a delete that
 /// hides nothing.
-fn stays(
-    entry: &Entry,
-    spans: &Fragments,
-    stripes: &[u64],
-    end: u64,
-    floor: &FloorIndex,
-) -> bool
+fn stays(entry: &Entry, spans: &Fragments, stripes: &[u64], end: u64, floor: &FloorIndex) -> bool
     requires rising { IsNonDecreasing stripes.now }
     requires end { IsEnd stripes.now entry.now.seq end }
     ensures { result ≡ not (list_any (buries_entry stripes.now entry.now) spans.now
