@@ -1,6 +1,6 @@
 -- The index of a floor answers as the floor does.
-use Rattle.std.proofs.Common.{◌≡◌, ℕ, zero, suc, ◌+◌, ◌<◌, ◌≤◌, Bool, true, false, not, ◌&&◌, cond, ltb, List, [], ◌∷◌, length, get_or, map, Option, Some, None, inl, inr, IsTrue, refl, sym, ap, ◌∙◌, subst, arith}
-use Rattle.std.proofs.lemmas.Bool.{cases_Bool, cases_lt, and_parts, and_from, and_left, and_right, false≢true, lt-ltb, ltb-true, not-true, not-false, cases_order, false_from_ne_true}
+use Rattle.std.proofs.Common.{◌≡◌, ℕ, ◌<◌, ◌≤◌, true, false, not, ◌&&◌, ltb, List, length, get_or, Option, Some, None, inl, inr, refl, sym, ap, ◌∙◌, subst, arith}
+use Rattle.std.proofs.lemmas.Bool.{cases_Bool, and_parts, and_from, and_right, false≢true, lt-ltb, ltb-true, not-true, not-false, cases_order, false_from_ne_true}
 use Rattle.std.proofs.lemmas.List.{get_or_default}
 use Rattle.std.specs.List.{list_any}
 use Rattle.std.specs.List.Sorted.{IsPartitionPoint}
@@ -17,12 +17,9 @@ use Rattle.xdb_rangedel.proofs.MemberLaws.{Contains-from_Has, Has-get_or, Has-ma
 use Rattle.xdb_rangedel.proofs.CoverLaws.{cover_of-None, cover_of-Some, meets-from_held}
 use Rattle.xdb_rangedel.proofs.PartLaws.{precedes_tells}
 use Rattle.xdb_rangedel.proofs.PieceLaws.{piece_inside}
-use Rattle.xdb_stripes.specs.declared.floor.Floor.{Floor}
 use Rattle.xdb_stripes.specs.declared.floor.Floor.TheVariants as floors
-use Rattle.xdb_stripes.specs.declared.floor.FloorIndex.{FloorIndex}
 use Rattle.xdb_stripes.specs.declared.floor.FloorIndex.TheVariants as indexes
-use Rattle.xdb_stripes.specs.Floors.{floor_holds, floor_meets}
-use Rattle.xdb_stripes.specs.Steps.{IsIndex, index_holds, index_meets, at_zero}
+use Rattle.xdb_stripes.specs.Steps.{IsIndex, at_zero}
 use Rattle.xdb_stripes.proofs.AnyLaws.{both_ways, any-has, any-from}
 
 -- some span holds the key where one covers it below a limit that is above all numbers

@@ -1,17 +1,17 @@
 -- What thinning keeps of a content's meaning: the newest item at a key below a limit stays, unless it is a
 -- delete of stripe 0 off the floor; and then all that is left there are deletes.
-use Rattle.std.proofs.Common.{◌≡◌, ℕ, ◌+◌, ◌*◌, ◌<◌, ◌≤◌, Bool, true, false, not, ◌&&◌, ◌||◌, ◌==◌, ltb, List, [], ◌∷◌, ◌++◌, map, Option, Some, None, inl, inr, ◌⊎◌, IsTrue, refl, sym, ap, ◌∙◌, subst, arith}
-use Rattle.std.proofs.lemmas.Bool.{cases_Bool, cases_lt, and_parts, and_from, or_parts, or_cases, or_from, or_left, or_right, not-true, not-false, lt-ltb, ltb-true, eqb-true, eq-eqb, false≢true, true≢false, false_from_ne_true}
+use Rattle.std.proofs.Common.{◌≡◌, ℕ, ◌+◌, ◌*◌, ◌<◌, ◌≤◌, Bool, true, false, not, ◌||◌, ◌==◌, ltb, List, [], ◌∷◌, map, Option, Some, None, inl, inr, ◌⊎◌, IsTrue, refl, sym, ap, ◌∙◌, subst, arith}
+use Rattle.std.proofs.lemmas.Bool.{cases_Bool, cases_lt, and_parts, and_from, or_parts, not-true, lt-ltb, ltb-true, eqb-true, eq-eqb, false≢true, false_from_ne_true}
 use Rattle.std.specs.List.{list_any, filter}
 use Rattle.xdb_key.specs.Bounds.{Bounds, holds, meets, covers}
 use Rattle.xdb_key.specs.Order.{is_upto}
 use Rattle.xdb_key.specs.Entries.{Tombstone}
 use Rattle.xdb_rangedel.specs.Members.{Has, SameMembers}
 use Rattle.xdb_rangedel.specs.Pieces.{pieces}
-use Rattle.xdb_rangedel.specs.Content.{Item, entry, span, Verdict, found, deleted, nothing, Mark, seq_of, same_key, here, rank, said, mark, is_seen, newest, said_by, verdict, IsClear, entries_in, spans_in, in_pieces}
-use Rattle.xdb_rangedel.specs.Layers.{IsAllBelow, IsGreatest, IsDrawn}
+use Rattle.xdb_rangedel.specs.Content.{Item, entry, span, deleted, nothing, Mark, seq_of, same_key, here, rank, said, mark, is_seen, newest, said_by, verdict, IsClear, entries_in, spans_in, in_pieces}
+use Rattle.xdb_rangedel.specs.Layers.{IsGreatest, IsDrawn}
 use Rattle.xdb_rangedel.proofs.MemberLaws.{Has-append_cases, Has-from_map}
-use Rattle.xdb_rangedel.proofs.NewestLaws.{newest-None, newest-Some, newest-greatest, seen-here, same_key-tells, same_key-itself, clear_says}
+use Rattle.xdb_rangedel.proofs.NewestLaws.{newest-None, newest-Some, newest-greatest, seen-here, same_key-tells, clear_says}
 use Rattle.xdb_rangedel.proofs.LayerLaws.{drawn_clear, drawn_entry}
 use Rattle.xdb_rangedel.proofs.SpanLaws.{newest-in_pieces, drawn-in_pieces, Has-spans_in}
 use Rattle.xdb_rangedel.proofs.PieceLaws.{piece_inside}

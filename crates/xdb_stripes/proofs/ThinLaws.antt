@@ -1,42 +1,24 @@
 -- From the rules on entries and fragments apart to those on all items of their content.
-use Rattle.std.proofs.Common.{◌≡◌, ℕ, ◌+◌, ◌-◌, ◌<◌, ◌≤◌, Bool, true, false, not, ◌&&◌, ◌||◌, ◌==◌, ◌^◌, cond, ltb, List, [], ◌∷◌, ◌++◌, length, get_or, take, map, Option, Some, None, inl, inr, ◌⊎◌, IsTrue, refl, sym, ap, ◌∙◌, subst, arith}
-use Rattle.std.proofs.lemmas.Bool.{cases_Bool, cases_lt, cases_order, and_parts, and_from, and_left, and_right, or_cases, or_left, or_right, or_from, lt-ltb, le-ltb, ltb-true, ltb-false, eqb-true, eq-eqb, false≢true, true≢false, false_from_ne_true}
-use Rattle.std.proofs.lemmas.List.{get_or_default}
-use Rattle.std.specs.List.{All, list_any, filter}
-use Rattle.std.specs.Cmp.{tied_itself}
-use Rattle.std.specs.Ordering.{nat_cmp, is_lt, is_le, ordering_then}
-use Rattle.std.specs.declared.cmp.Ordering.{Ordering}
-use Rattle.std.specs.declared.cmp.Ordering.TheVariants.{Less, Equal, Greater}
-use Rattle.xdb_key.specs.Order.{key_cmp, is_below, is_upto}
-use Rattle.xdb_key.specs.Bounds.{Bounds, holds}
+use Rattle.std.proofs.Common.{◌≡◌, ℕ, Bool, true, false, not, ◌&&◌, ◌||◌, ◌==◌, List, ◌++◌, map, inl, inr, refl, sym, ap, ◌∙◌, subst}
+use Rattle.std.specs.List.{list_any, filter}
 use Rattle.xdb_key.specs.Entries.{Point, Tombstone}
-use Rattle.xdb_key.specs.InOrder.{comes_before, AreInOrder}
-use Rattle.xdb_key.specs.Kinds.{trailer, kind_code}
 use Rattle.xdb_key.specs.declared.op.Kind.{Kind}
 use Rattle.xdb_key.specs.declared.op.Kind.TheVariants as kinds
-use Rattle.xdb_key.proofs.OrderLaws.{key_total, upto-itself, below-itself, upto_antisymm, upto_trans, upto_from_below, below_upto, upto_below}
-use Rattle.xdb_key.proofs.InOrderLaws.{before_keys}
 use Rattle.xdb_rangedel.specs.Members.{Has, SameMembers}
-use Rattle.xdb_rangedel.specs.Pieces.{AreFragments, precedes, is_ordered, pieces}
-use Rattle.xdb_rangedel.specs.Content.{Item, entry, span, same_key, value_at, entry_of, content_of, entries_in, spans_in, in_pieces}
-use Rattle.xdb_rangedel.proofs.MemberLaws.{Contains-from_Has, Has-get_or, Has-append_cases, Has-append_left, Has-append_right, Has-map, Has-from_map}
-use Rattle.xdb_rangedel.proofs.NewestLaws.{same_key-tells, same_key-itself}
-use Rattle.xdb_rangedel.proofs.PartLaws.{precedes_tells}
+use Rattle.xdb_rangedel.specs.Pieces.{AreFragments, is_ordered, pieces}
+use Rattle.xdb_rangedel.specs.Content.{Item, entry, span, value_at, entry_of, content_of, in_pieces}
+use Rattle.xdb_rangedel.proofs.MemberLaws.{Has-append_cases, Has-append_left, Has-append_right, Has-map, Has-from_map}
 use Rattle.xdb_rangedel.proofs.FragmentLaws.{All-at_Has}
 use Rattle.xdb_rangedel.proofs.OnlyLaws.{fragments_themselves}
 use Rattle.xdb_rangedel.proofs.SpanLaws.{entries_in-content_of, spans_in-content_of}
 use Rattle.std.proofs.lemmas.List.Elements.{filter-append}
 use Rattle.std.proofs.lemmas.List.Folds.{list_any-append}
-use Rattle.xdb_stripes.specs.Stripes.{stripe, outranks}
+use Rattle.xdb_stripes.specs.Stripes.{stripe}
 use Rattle.xdb_stripes.specs.declared.floor.Floor.{Floor}
 use Rattle.xdb_stripes.specs.declared.floor.FloorIndex.{FloorIndex}
-use Rattle.xdb_stripes.specs.Floors.{floor_holds, floor_meets}
-use Rattle.xdb_stripes.specs.Thinned.{same_bounds, shadows, buries, repeats, is_spent, stays, thinned, staying_entries, staying_spans}
-use Rattle.xdb_stripes.specs.Steps.{IsEnd, IsIndex, index_holds, index_meets, shadows_entry, buries_entry, repeats_span, is_delete, is_lost_delete, is_lost_span, is_kept_entry, is_kept_span}
-use Rattle.xdb_stripes.proofs.AnyLaws.{both_ways, any-has, any-from, any_along, any-map, any-never, any-same, filter_along, filter-map, filter-same}
-use Rattle.xdb_stripes.proofs.StripeLaws.{outranks-tells, outranks-from, ended, within, stripe_rises}
-use Rattle.xdb_stripes.proofs.KeepLaws.{same_bounds-tells}
-use Rattle.xdb_stripes.proofs.EntryLaws.{same_key-from}
+use Rattle.xdb_stripes.specs.Thinned.{shadows, buries, repeats, is_spent, stays, thinned, staying_entries, staying_spans}
+use Rattle.xdb_stripes.specs.Steps.{IsIndex, index_holds, shadows_entry, buries_entry, repeats_span, is_delete, is_lost_delete, is_kept_entry, is_kept_span}
+use Rattle.xdb_stripes.proofs.AnyLaws.{any_along, any-map, any-never, any-same, filter_along, filter-map, filter-same}
 
 all-is : (ps : List Point) (ts : List Tombstone) → in_pieces (content_of ps ts) ≡ map entry_of ps ++ map span (pieces ts)
 all-is ps ts = λ i. entries_in-content_of ps ts i ++ map span (pieces (spans_in-content_of ps ts i))

@@ -1,6 +1,6 @@
 -- What thinning leaves of a content: of what speaks of one key in one stripe the newest alone, and no delete that
 -- hides nothing. Each rule is asked of an item and of all items, where spans are cut into pieces at their bounds.
-use Rattle.std.specs.Prelude.{ℕ, Bool, true, false, not, ◌&&◌, ◌||◌, ◌==◌, List, Option, Some, None}
+use Rattle.std.specs.Prelude.{ℕ, Bool, false, not, ◌&&◌, ◌||◌, ◌==◌, List, Some, None}
 use Rattle.std.specs.List.{list_any, filter}
 use Rattle.xdb_key.specs.Bounds.{Bounds, holds}
 use Rattle.xdb_key.specs.Entries.{Point, Tombstone}

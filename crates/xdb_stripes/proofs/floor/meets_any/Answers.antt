@@ -1,5 +1,5 @@
 -- What is left to answer of `meets_any`.
-use Rattle.std.proofs.Common.{◌≡◌, sym, ap, ◌∙◌, subst, rules}
+use Rattle.std.proofs.Common.{ap, ◌∙◌, rules}
 use Rattle.std.proofs.lemmas.List.Sorted.{IsPartitionPoint-from_clause}
 use Rattle.xdb_key.specs.Order.{is_below}
 use Rattle.xdb_rangedel.specs.Sweep.{ends_by}

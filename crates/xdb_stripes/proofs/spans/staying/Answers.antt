@@ -1,7 +1,6 @@
 -- What is left to answer of `staying`.
-use Rattle.std.proofs.Common.{◌≡◌, sym, ap, ◌∙◌, subst}
+use Rattle.std.proofs.Common.{ap, ◌∙◌}
 use Rattle.std.specs.List.{filter}
-use Rattle.xdb_rangedel.specs.Pieces.{AreFragments}
 use Rattle.xdb_stripes.specs.Steps.{is_kept_span}
 use Rattle.xdb_stripes.proofs.RepeatLaws.{left_again}
 use Rattle.xdb_stripes.proofs.spans.staying.Goals as goal

@@ -1,5 +1,5 @@
 -- What is left to answer of `thin`.
-use Rattle.std.proofs.Common.{◌≡◌, IsTrue, sym, ◌∙◌, subst}
+use Rattle.std.proofs.Common.{IsTrue, sym, ◌∙◌, subst}
 use Rattle.std.proofs.lemmas.List.Kept.{AllPairs-filter}
 use Rattle.xdb_key.specs.InOrder.{comes_before, AreInOrder}
 use Rattle.xdb_rangedel.specs.Members.{SameMembers}
