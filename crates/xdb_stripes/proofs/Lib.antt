@@ -1,0 +1,8 @@
+-- The laws, by topic.
+pub mod AnyLaws
+pub mod StripeLaws
+pub mod FloorLaws
+pub mod KeepLaws
+pub mod EntryLaws
+pub mod RepeatLaws
+pub mod ThinLaws
