@@ -1,6 +1,3 @@
--- The laws, by topic.
-pub mod QuestionLaws
-pub mod StateLaws
-pub mod CommitSteps
-pub mod AskSteps
-pub mod SettleSteps
+mod AskLaws
+mod StateLaws
+mod StepLaws

@@ -3,7 +3,7 @@ use Rattle.std.specs.Prelude.{◌≡◌, ℕ, ◌+◌, ◌<◌, ◌≤◌, Bool,
 use Rattle.xdb_key.specs.Groups.{Group}
 use Rattle.xdb_laws.specs.Answered.{question_bounds, is_of_now}
 use Rattle.xdb_mem.specs.Parts.{picked, clipped, items_below}
-use Rattle.xdb_mem.specs.Queue.{all_ops}
+use Rattle.xdb_mem.specs.Queue.{groups, all_ops}
 use Rattle.xdb_order.specs.Desk.{fresh_story}
 use Rattle.xdb_plain.specs.declared.act.By.{By}
 use Rattle.xdb_plain.specs.declared.question.Place.TheVariants.{Before}
@@ -18,11 +18,27 @@ use Rattle.xdb_read.specs.Fits.{content}
 use Rattle.xdb_read.specs.declared.parts.ReadParts.{ReadParts}
 use Rattle.xdb_plain.specs.State.{groups as plain_groups}
 use Rattle.xdb_engine.specs.Questions.{Asking, asking}
-use Rattle.xdb_engine.specs.Seen.{Seen, plain_of}
-use Rattle.xdb_engine.specs.declared.asks.AskVerdict.{AskVerdict}
-use Rattle.xdb_engine.specs.declared.asks.AskVerdict.TheVariants as verdict
+use Rattle.xdb_engine.specs.View.{EngineView, plain_of}
+use Rattle.xdb_engine.specs.declared.state.State.{State}
+
+-- what a question is asked over: the groups, the next number, how many questions were asked, and the open ones
+pub record Grounds (F : Type 0) : Type 0 where
+  pub groups : List Group
+  pub next : ℕ
+  pub asked : ℕ
+  pub questions : List (Asking F)
+
+abbrev pub grounds : {F : Type 0} → List Group → ℕ → ℕ → List (Asking F) → Grounds F
+grounds gs next asked questions = record { groups = gs; next = next; asked = asked; questions = questions }
 
 module _ {F : Type 0} where
+  -- those of an engine's parts, and those of the plain state
+  abbrev pub state_grounds : State F → Grounds F
+  state_grounds s = grounds (groups s.mem) s.numbers.next s.numbers.asked s.asks
+
+  abbrev pub plain_grounds : EngineView F → Grounds F
+  plain_grounds e = let p = plain_of e in grounds (plain_groups p) p.next p.asked e.questions
+
   -- The parts of a question about what stands now: all that the groups have inside its bounds below the next number.
   pub record ArePartsOf (groups : List Group) (next : ℕ) (question : Question) (parts : ReadParts F) : Type 0 where
     pub same_question : parts.question ≡ question
@@ -35,35 +51,29 @@ module _ {F : Type 0} where
     pub tables : parts.tables ≡ []
 
   -- The question is opened behind the others, with the next number.
-  pub record Opens (groups : List Group) (next asked : ℕ) (old new : List (Asking F)) (asked' : ℕ) (by : By) (question : Question) (parted : Bool) (ask : ℕ) (given : ReadParts F) : Type 0 where
-    pub number : ask ≡ asked + 1
-    pub counted : asked' ≡ ask
-    pub opened : new ≡ old ++ asking ask by parted given fresh_story None ∷ []
-    pub parts : ArePartsOf groups next question given
+  pub record Opens (g : Grounds F) (new : List (Asking F)) (by : By) (question : Question) (parted : Bool) (ask : ℕ) (given : ReadParts F) : Type 0 where
+    pub number : ask ≡ g.asked + 1
+    pub opened : new ≡ g.questions ++ asking ask by parted given fresh_story None ∷ []
+    pub parts : ArePartsOf g.groups g.next question given
     pub of_now : is_of_now question ≡ true
-    pub room : length old < 64
+    pub room : length g.questions < 64
 
-  -- No question is opened.
-  pub record Leaves (asked : ℕ) (old new : List (Asking F)) (asked' : ℕ) : Type 0 where
-    pub same : new ≡ old
-    pub same_asked : asked' ≡ asked
+  -- the question is opened in the parts, where this number and these parts came of it
+  abbrev pub IsOpened : State F → State F → By → Question → Bool → ℕ × ReadParts F → Type 0
+  IsOpened old new by question parted made =
+      Opens (state_grounds old) new.asks by question parted made.0 made.1 × (new.numbers ≡ record old.numbers { asked = made.0 })
 
   -- By the reply and what is handed out. No snapshot and no cursor is open, so what is asked of one has none.
-  abbrev pub IsAsked : List Group → ℕ → ℕ → List (Asking F) → List (Asking F) → ℕ → By → Question → Bool → Reply → Option (ReadParts F) → Type 0
-  IsAsked groups next asked old new asked' by question parted (Asked ask) (Some given) = Opens groups next asked old new asked' by question parted ask given
-  IsAsked groups next asked old new asked' by question parted NoSuch None = Leaves asked old new asked' × (is_of_now question ≡ false)
-  IsAsked groups next asked old new asked' by question parted TooMany None = Leaves asked old new asked' × (is_of_now question ≡ true) × (64 ≤ length old)
-  IsAsked groups next asked old new asked' by question parted Memory None = Leaves asked old new asked' × (is_of_now question ≡ true) × (length old < 64)
-  IsAsked groups next asked old new asked' by question parted _ _ = ⊥
+  abbrev pub IsAsked : Grounds F → List (Asking F) → By → Question → Bool → Reply → Option (ReadParts F) → Type 0
+  IsAsked g new by question parted (Asked ask) (Some given) = Opens g new by question parted ask given
+  IsAsked g new by question parted NoSuch None = (new ≡ g.questions) × (is_of_now question ≡ false)
+  IsAsked g new by question parted TooMany None = (new ≡ g.questions) × (is_of_now question ≡ true) × (64 ≤ length g.questions)
+  IsAsked g new by question parted Memory None = (new ≡ g.questions) × (is_of_now question ≡ true) × (length g.questions < 64)
+  IsAsked g new by question parted _ _ = ⊥
 
-  -- The same from one engine to the next.
-  abbrev pub IsAskedOf : Seen F → Seen F → By → Question → Bool → Reply → Option (ReadParts F) → Type 0
-  IsAskedOf old new by question parted told hand =
-      let p = plain_of old in
-      IsAsked (plain_groups p) p.next p.asked old.questions new.questions (plain_of new).asked by question parted told hand
+  -- the same from one state of the parts to the next, and from one engine to the next
+  abbrev pub IsAskedIn : State F → State F → By → Question → Bool → Reply → Option (ReadParts F) → Type 0
+  IsAskedIn old new by question parted told hand = IsAsked (state_grounds old) new.asks by question parted told hand
 
-abbrev pub ask_reply : AskVerdict → Reply
-ask_reply (verdict.Asked ask) = Asked ask
-ask_reply verdict.NoSuch = NoSuch
-ask_reply verdict.TooMany = TooMany
-ask_reply verdict.Lacking = Memory
+  abbrev pub IsAskedOf : EngineView F → EngineView F → By → Question → Bool → Reply → Option (ReadParts F) → Type 0
+  IsAskedOf old new by question parted told hand = IsAsked (plain_grounds old) new.questions by question parted told hand

@@ -1,17 +1,24 @@
--- Notes of steps that change no tables.
-use Rattle.std.specs.Prelude.{Bool, true, false, [], None}
+-- The notes of recorded calls.
+use Rattle.std.specs.Prelude.{◌≡◌, Bool, List}
+use Rattle.xdb_key.specs.declared.op.Op.{Op}
+use Rattle.xdb_plain.specs.Steps.{asked_number}
 use Rattle.xdb_plain.specs.declared.act.Act.{Act}
 use Rattle.xdb_plain.specs.declared.act.Act.TheVariants as act
 use Rattle.xdb_plain.specs.declared.act.By.{By}
+use Rattle.xdb_plain.specs.declared.act.CommitForm.{CommitForm}
 use Rattle.xdb_plain.specs.declared.note.Note.{Note}
+use Rattle.xdb_plain.specs.declared.question.Question.{Question}
 use Rattle.xdb_plain.specs.declared.reply.Reply.{Reply}
+use Rattle.xdb_steps.specs.Notes.{plain_note}
+use Rattle.xdb_engine.specs.declared.notes.Verdict.{Verdict}
 
--- a note without an edit, holds and tried numbers
-abbrev pub plain_note : By → Act → Reply → Note
-plain_note by a reply = record { by = by; act = a; reply = reply; edit = None; holds = []; tried = [] }
+abbrev pub commit_note : By → CommitForm → List Op → Reply → Note
+commit_note by form ops reply = plain_note by (act.Commit form ops) reply
 
--- work that there may be none of to do
-abbrev pub is_work : Act → Bool
-is_work (act.Build job) = true
-is_work (act.Work ask) = true
-is_work _ = false
+-- the number in the act is that of the reply, and 0 where no question is opened
+abbrev pub ask_note : By → Question → Bool → Reply → Note
+ask_note by question parted reply = plain_note by (act.Ask (asked_number reply) question parted) reply
+
+-- The note is by this one, of this act and of the reply that the caller gets. It tells of no edit, hold or file.
+abbrev pub IsPlain : By → Act → Verdict → Type 0
+IsPlain by a v = v.note ≡ plain_note by a v.reply

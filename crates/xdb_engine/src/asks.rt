@@ -1,169 +1,152 @@
-//! What becomes of a question that is asked.
-ghost use Rattle.std.specs.Prelude.{◌≡◌, ◌+◌, ◌<◌, ◌++◌, ◌∷◌, [], true, false, IfOk, OnErr, IsTrue, Some, None, OnOk};
-ghost use Rattle.xdb_key.specs.Bounds.{key_hull};
-ghost use Rattle.xdb_laws.specs.Answered.{question_bounds, is_of_now};
-ghost use Rattle.xdb_mem.specs.Queue.{groups};
-ghost use Rattle.xdb_order.specs.Desk.{fresh_story};
-ghost use Rattle.xdb_plain.specs.Steps.{asked_number};
-ghost use Rattle.xdb_engine.specs.Questions.{asking};
-ghost use Rattle.xdb_engine.specs.Asks.{ArePartsOf, IsAsked, ask_reply};
+//! The open questions of an engine, in the order of their numbers.
+ghost use Rattle.std.specs.Prelude.{◌≡◌, ◌<◌, ◌++◌, ◌∷◌, [], All, length, map, IfSome, IsSome, Some, OnOk, OnErr};
+ghost use Rattle.std.specs.Option.{option_copied};
+ghost use Rattle.xdb_lists.specs.Keyed.{IsRising};
+ghost use Rattle.xdb_plain.specs.declared.act.Act.TheVariants as act;
+ghost use Rattle.xdb_rangedel.specs.Content.{IsClear};
+ghost use Rattle.xdb_read.specs.Fits.{content, ReadFits};
+ghost use Rattle.xdb_engine.specs.Questions.{AreAsks, FitsGiven, IsPlaceOf, LooksFor, plain_question, question_of, with_result};
+ghost use Rattle.xdb_engine.specs.Ends.{IsSettled, failure, failure_leaves};
 
 use crate::OpenRead;
+use crate::questions::Settled;
 use std::alloc::{AllocError, Global};
+use std::marker::Model;
 use xdb_device::FileRef;
-use xdb_key::{Key, KeyRange};
-use xdb_mem::MemQueue;
-use xdb_order::{Hand, order};
-use xdb_plain::{By, Items, Place, Question, Reply};
-use xdb_read::{ReadParts, ReadWork};
+use xdb_plain::{Act, By, Reply};
+use xdb_read::ReadDone;
 
 /// As many questions may be open.
-const MOST_QUESTIONS: usize = 64;
+pub const MOST_QUESTIONS: usize = 64;
 
-/// How an ask ended.
-#[derive(Clone, Copy, Debug)]
-pub enum AskVerdict {
-    Asked(u64),
-    NoSuch,
-    TooMany,
-    Lacking,
+/// The open questions. What each was handed is clear, and what is kept for one fits that.
+#[derive(Drop)]
+pub struct Asks<F: FileRef> {
+    questions: Vec<OpenRead<F>>,
 }
 
-impl AskVerdict {
-    pub fn reply(self) -> Reply
-        ensures { result ≡ ask_reply self }
+impl<F: FileRef> Model for Asks<F> {
+    ghost use Rattle.std.specs.Prelude.{List};
+    ghost use Rattle.xdb_engine.specs.Questions.{Asking, AreAsks};
+
+    ghost Value = { List (Asking F) };
+
+    ghost view = { λ a. a.questions.items };
+
+    ghost invariant = { λ a. AreAsks a.questions.items };
+}
+
+impl<F: FileRef> Asks<F> {
+    /// None. It takes no memory.
+    pub fn new(alloc: Global) -> Self
+        ensures { result ≡ [] }
     {
-        match self {
-            AskVerdict::Asked(ask) => Reply::Asked(ask),
-            AskVerdict::NoSuch => Reply::NoSuch,
-            AskVerdict::TooMany => Reply::TooMany,
-            AskVerdict::Lacking => Reply::Memory,
+        Asks {
+            questions: Vec::new(alloc),
         }
     }
 
-    /// The number of the question, and 0 where none was opened.
-    pub fn number(self) -> u64
-        ensures { result ≡ asked_number (ask_reply self) }
+    pub fn len(&self) -> usize
+        ensures len { result ≡ length self.now }
+        // What holds of the open questions at any time.
+        ensures asks { AreAsks self.now }
     {
-        match self {
-            AskVerdict::Asked(ask) => ask,
-            _ => 0,
+        self.questions.len()
+    }
+
+    /// The question of the number.
+    pub fn find(&self, ask: u64) -> Option<&OpenRead<F>>
+        ensures { option_copied result ≡ question_of ask self.now }
+    {
+        let at = place(&self.questions, ask)?;
+        Some(&self.questions[at])
+    }
+
+    /// Opens a question behind the others.
+    pub fn push(&mut self, question: OpenRead<F>) -> Result<(), AllocError>
+        requires few { length self.old < 64 }
+        requires last { All (λ q. q.ask < question.ask) self.old }
+        requires clear { IsClear (content question.given) }
+        requires fits { FitsGiven question }
+        ensures opened { OnOk result (self.new ≡ self.old ++ question ∷ []) }
+        ensures unchanged { OnErr result (self.new ≡ self.old) }
+    {
+        self.questions.try_reserve(1)?;
+        self.questions.push_reserved(question);
+        Ok(())
+    }
+
+    /// Ends the question where its result is kept. It takes no memory.
+    pub fn settle(&mut self, ask: u64) -> Settled
+        ensures settled { IsSettled ask (question_of ask self.old) self.old self.new result }
+        // So that the caller has it of what was kept.
+        ensures asks { AreAsks self.old }
+    {
+        let Some(at) = place(&self.questions, ask) else {
+            return early(ask, Reply::NoSuch, Reply::NoSuch);
+        };
+        if !self.questions[at].is_kept() {
+            return early(ask, Reply::NotYet, Reply::NotYet);
         }
+        self.questions.remove(at).into_answer()
+    }
+
+    /// Ends the question in vain, and answers who tells that and as what. It takes no memory.
+    pub fn fail(&mut self, ask: u64) -> (By, Act)
+        requires { IsSome (question_of ask self.old) }
+        ensures told { result ≡ failure (question_of ask self.old) }
+        ensures leaves { self.new ≡ failure_leaves (question_of ask self.old) self.old }
+    {
+        let Some(at) = place(&self.questions, ask) else {
+            unreachable!()
+        };
+        self.questions.remove(at).into_failure()
+    }
+
+    /// Looks for the result of the question where none is kept, and answers whether one is kept then.
+    pub fn look(&mut self, ask: u64) -> bool
+        ensures looks { LooksFor (question_of ask self.old) self.old self.new result }
+        ensures same { map plain_question self.new ≡ map plain_question self.old }
+    {
+        let Some(at) = place(&self.questions, ask) else {
+            return false;
+        };
+        let question = &mut self.questions[at];
+        question.arrived()
+    }
+
+    /// Keeps the result of the question.
+    pub fn bring(&mut self, ask: u64, done: ReadDone)
+        requires there { IsSome (question_of ask self.old) }
+        requires fits { IfSome (question_of ask self.old) (λ q. ReadFits q.given done) }
+        ensures placed { IfSome (question_of ask self.old) (λ q. self.new ≡ with_result q done self.old) }
+        ensures same { map plain_question self.new ≡ map plain_question self.old }
+    {
+        let Some(at) = place(&self.questions, ask) else {
+            unreachable!()
+        };
+        let question = &mut self.questions[at];
+        question.bring(done);
     }
 }
 
-/// Opens the question behind the others, and hands its parts out.
-pub fn ask<F: FileRef>(
-    alloc: Global,
-    queue: &MemQueue,
-    next: u64,
-    asked: &mut u64,
-    questions: &mut Vec<OpenRead<F>>,
-    by: By,
-    question: &Question,
-    parted: bool,
-) -> (AskVerdict, Option<Hand<ReadWork<F>>>)
-    ensures { IsAsked (groups queue.now) next asked.old questions.old.items questions.new.items asked.new by question.now parted (ask_reply result.0) result.1 }
+/// The place of the question of the number.
+fn place<F: FileRef>(questions: &[OpenRead<F>], ask: u64) -> Option<usize>
+    requires { IsRising (λ q. q.ask) questions.now }
+    ensures { IsPlaceOf ask questions.now result }
 {
-    if !is_of_now(question) {
-        return (AskVerdict::NoSuch, None);
-    }
-    if questions.len() >= MOST_QUESTIONS {
-        return (AskVerdict::TooMany, None);
-    }
-    match open(alloc, queue, next, *asked, by, question, parted) {
-        Ok((opened, hand)) => {
-            let ask = opened.ask;
-            match questions.push(opened) {
-                Ok(()) => {
-                    *asked = ask;
-                    (AskVerdict::Asked(ask), Some(hand))
-                }
-                Err(_) => (AskVerdict::Lacking, None),
-            }
-        }
-        Err(AllocError) => (AskVerdict::Lacking, None),
+    match questions.binary_search_by(|other| other.number().cmp(&ask)) {
+        Ok(at) => Some(at),
+        Err(_) => None,
     }
 }
 
-/// A question with the number after `asked`, and the hand for its work. Without a further number there
-/// is no room for it either.
-fn open<F: FileRef>(
-    alloc: Global,
-    queue: &MemQueue,
-    next: u64,
-    asked: u64,
-    by: By,
-    question: &Question,
-    parted: bool,
-) -> Result<(OpenRead<F>, Hand<ReadWork<F>>), AllocError>
-    requires { IsTrue (is_of_now question.now) }
-    ensures opened { IfOk result (λ made. made.0 ≡ asking (asked + 1) by parted made.1 fresh_story None) }
-    ensures parts { IfOk result (λ made. ArePartsOf (groups queue.now) next question.now made.1) }
+/// The settle of no question, or of one whose result isn't kept.
+fn early(ask: u64, noted: Reply, told: Reply) -> Settled
+    ensures act { result.act ≡ act.Settle ask }
+    ensures noted { result.noted ≡ noted }
+    ensures told { result.told ≡ told }
 {
-    let Some(ask) = asked.checked_add(1) else {
-        return Err(AllocError);
-    };
-    let parts = parts_of(alloc, queue, next, question)?;
-    let again = question.copy()?;
-    let (desk, hand) = order(alloc, parts)?;
-    Ok((OpenRead::new(ask, by, parted, again, desk), hand))
-}
-
-/// What the question's answer needs.
-fn parts_of<F>(
-    alloc: Global,
-    queue: &MemQueue,
-    next: u64,
-    question: &Question,
-) -> Result<ReadParts<F>, AllocError>
-    requires { IsTrue (is_of_now question.now) }
-    ensures { IfOk result (ArePartsOf (groups queue.now) next question.now) }
-{
-    let bounds = bounds_of(question)?;
-    let mem = queue.parts(&bounds, next)?;
-    Ok(ReadParts {
-        question: question.copy()?,
-        place: Place::Before,
-        bounds,
-        at: next,
-        mem,
-        tables: Items::new(Vec::new(alloc)),
-    })
-}
-
-/// The keys that the question speaks of.
-fn bounds_of(question: &Question) -> Result<KeyRange, AllocError>
-    requires { IsTrue (is_of_now question.now) }
-    ensures { IfOk result (λ bounds. question_bounds question.now ≡ Some bounds) }
-{
-    match question {
-        Question::Get { key, .. } => hull(key),
-        Question::Scan { range, .. } | Question::RScan { range, .. } => range.copy(),
-        Question::Move { .. } => unreachable!(),
-    }
-}
-
-/// The range of the key alone.
-fn hull(key: &Key) -> Result<KeyRange, AllocError>
-    ensures { IfOk result (λ hull. hull ≡ key_hull key.now) }
-{
-    let lo = key.bound()?;
-    let hi = key.successor()?;
-    let Ok(hull) = KeyRange::new(lo, hi) else {
-        unreachable!()
-    };
-    Ok(hull)
-}
-
-/// Whether the question is about what stands now.
-fn is_of_now(question: &Question) -> bool
-    ensures { result ≡ is_of_now question.now }
-{
-    match question {
-        Question::Get { at, .. } | Question::Scan { at, .. } | Question::RScan { at, .. } => {
-            at.is_none()
-        }
-        Question::Move { .. } => false,
-    }
+    let act = Act::Settle { ask };
+    Settled { act, noted, told }
 }

@@ -1,17 +1,20 @@
 //! The engine: the one value under the version lock. Each recorded call adds one note to its history.
 #![tactic(auto)]
 
+mod asking;
 mod asks;
 mod commits;
 mod engine;
+mod failures;
 mod ids;
 mod notes;
-mod open_read;
 mod questions;
+mod state;
+mod works;
 
 pub use engine::Engine;
 pub use ids::{Given, Id, Outcome};
-pub use open_read::OpenRead;
+pub use questions::OpenRead;
 
 #[cfg(test)]
 mod tests;

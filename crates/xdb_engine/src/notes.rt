@@ -1,19 +1,32 @@
 ghost use Rattle.std.specs.Prelude.{◌≡◌};
-ghost use Rattle.xdb_engine.specs.Notes.{plain_note};
+ghost use Rattle.xdb_engine.specs.Notes.{IsPlain};
 
 use std::alloc::Global;
 use xdb_plain::{Act, By, Items, Note, Reply};
 
-/// A note of a step that changes no tables, holds no version and tries no number. It takes no memory.
-pub fn plain_note(alloc: Global, by: By, act: Act, reply: Reply) -> Note
-    ensures { result ≡ plain_note by act reply }
-{
-    Note {
-        by,
-        act,
-        reply,
-        edit: None,
-        holds: Items::new(Vec::new(alloc)),
-        tried: Items::new(Vec::new(alloc)),
+/// What comes of a recorded call: its note for the history, and its reply for the caller.
+#[derive(Debug, Drop)]
+pub struct Verdict {
+    pub note: Note,
+    pub reply: Reply,
+}
+
+impl Verdict {
+    /// A step that changes no tables, holds no version and tries no number. Its reply is there twice,
+    /// once for the note, so this takes no memory.
+    pub fn new(alloc: Global, by: By, act: Act, noted: Reply, reply: Reply) -> Self
+        requires { noted ≡ reply }
+        ensures note { IsPlain by act result }
+        ensures reply { result.reply ≡ reply }
+    {
+        let note = Note {
+            by,
+            act,
+            reply: noted,
+            edit: None,
+            holds: Items::new(Vec::new(alloc)),
+            tried: Items::new(Vec::new(alloc)),
+        };
+        Verdict { note, reply }
     }
 }

@@ -389,7 +389,8 @@ fn takes_last(alloc: Global, version: &Version) -> Result<bool, Fail> {
     let Some(plan) = pick(version, &running)? else {
         return Ok(false);
     };
-    Ok(plan.inputs() == [(1, u64::from(MANY))].as_slice())
+    let (inputs, _, _) = plan.into_parts();
+    Ok(inputs.as_slice() == [(1, u64::from(MANY))].as_slice())
 }
 
 #[test]

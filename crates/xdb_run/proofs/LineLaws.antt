@@ -4,8 +4,9 @@ use Rattle.std.specs.List.{list_all}
 use Rattle.std.proofs.lemmas.Bool.{and_parts}
 use Rattle.std.proofs.lemmas.List.{reverse-append}
 use Rattle.std.proofs.lemmas.List.Folds.{list_all-append}
-use Rattle.xdb_engine.specs.Notes.{plain_note}
-use Rattle.xdb_engine.specs.Seen.{Seen, plain_of, Adds}
+use Rattle.xdb_engine.specs.Notes.{commit_note}
+use Rattle.xdb_steps.specs.Notes.{plain_note}
+use Rattle.xdb_engine.specs.View.{EngineView, plain_of, Adds}
 use Rattle.xdb_key.specs.declared.op.Op.{Op}
 use Rattle.xdb_plain.specs.Counts.{dead}
 use Rattle.xdb_plain.specs.Legal.{after_all}
@@ -32,20 +33,20 @@ front-left left rest line is = ap reverse is ∙ reverse-append rest (line ∷ [
 module _ {F : Type 0} where
   -- ---- lines that leave the questions
 
-  pub commit-takes : {old new : Seen F} {by : By} {form : CommitForm} {ops batch : List Op} {told : Reply} → batch ≡ ops → Adds old new (plain_note by (act.Commit form batch) told) → new.questions ≡ old.questions → TakesLine old new (Some by) (cmd.Commit form ops)
+  pub commit-takes : {old new : EngineView F} {by : By} {form : CommitForm} {ops batch : List Op} {told : Reply} → batch ≡ ops → Adds old new (commit_note by form batch told) → new.questions ≡ old.questions → TakesLine old new (Some by) (cmd.Commit form ops)
   commit-takes {form = form} is adds same = takes-alike (grows-one adds) refl (λ r at. record { same_by = refl; same_act = ap (act.Commit form) is }) same
 
-  pub seal-takes : {old new : Seen F} {told : Reply} → Adds old new (plain_note Db act.Seal told) → new.questions ≡ old.questions → TakesLine old new (Some Db) cmd.Seal
+  pub seal-takes : {old new : EngineView F} {told : Reply} → Adds old new (plain_note Db act.Seal told) → new.questions ≡ old.questions → TakesLine old new (Some Db) cmd.Seal
   seal-takes adds same = takes-alike (grows-one adds) refl (λ r at. record { same_by = refl; same_act = refl }) same
 
   -- nobody says the definition of a table
-  pub table-takes : (e : Seen F) (table : TableOps) → TakesLine e e None (cmd.Table table)
+  pub table-takes : (e : EngineView F) (table : TableOps) → TakesLine e e None (cmd.Table table)
   table-takes e table = takes-alike (grows-none refl refl refl) refl (λ r at. refl) refl
 
   -- ---- lines one after another
 
   -- one line more
-  line-taken : (lines : List Line) (line : Line) (old new : Seen F) → HasTakenLines lines old → TakesLine old new line.by line.cmd → HasTakenLines (lines ++ line ∷ []) new
+  line-taken : (lines : List Line) (line : Line) (old new : EngineView F) → HasTakenLines lines old → TakesLine old new line.by line.cmd → HasTakenLines (lines ++ line ∷ []) new
   line-taken lines line old new taken takes =
       let r = first_run (opening 1 1) in
       let block = takes.is_block (run_over r lines old.notes) taken.here in
@@ -57,13 +58,13 @@ module _ {F : Type 0} where
         here = subst (λ x. IsAt x new) (sym (ap (λ ns. run_over r (lines ++ line ∷ []) ns) takes.grows.notes ∙ behind)) (takes.goes_on (run_over r lines old.notes) taken.here);
       }
 
-  pub next-run : (script left rest : List Line) (line : Line) (e : Seen F) → StillTakesLines script left e → left ≡ rest ++ line ∷ [] → list_all is_run script ≡ true → is_run line ≡ true
+  pub next-run : (script left rest : List Line) (line : Line) (e : EngineView F) → StillTakesLines script left e → left ≡ rest ++ line ∷ [] → list_all is_run script ≡ true → is_run line ≡ true
   next-run script left rest line e still is all =
       let whole : script ≡ still.lines ++ line ∷ reverse rest = still.whole ∙ ap (λ ls. still.lines ++ ls) (front-left left rest line is) in
       let parts = and_parts (list_all is_run still.lines) (list_all is_run (line ∷ reverse rest)) (sym (list_all-append is_run still.lines (line ∷ reverse rest)) ∙ sym (ap (list_all is_run) whole) ∙ all) in
       (and_parts (is_run line) (list_all is_run (reverse rest)) parts.1).0
 
-  pub next-taken : (script left rest : List Line) (line : Line) (old new : Seen F) → StillTakesLines script left old → left ≡ rest ++ line ∷ [] → TakesLine old new line.by line.cmd → StillTakesLines script rest new
+  pub next-taken : (script left rest : List Line) (line : Line) (old new : EngineView F) → StillTakesLines script left old → left ≡ rest ++ line ∷ [] → TakesLine old new line.by line.cmd → StillTakesLines script rest new
   next-taken script left rest line old new still is more = record {
     lines = still.lines ++ line ∷ [];
     whole = still.whole ∙ ap (λ ls. still.lines ++ ls) (front-left left rest line is) ∙ sym (append_assoc still.lines (line ∷ []) (reverse rest));
@@ -71,7 +72,7 @@ module _ {F : Type 0} where
   }
 
   -- the lines are a run where there is nothing to remove
-  pub run-whole : (lines given : List Line) (e : Seen F) (notes : List Note) → given ≡ lines → HasTakenLines given e → notes ≡ e.notes → dead (plain_of e) ≡ [] → IsRunOf 1 1 lines notes
+  pub run-whole : (lines given : List Line) (e : EngineView F) (notes : List Note) → given ≡ lines → HasTakenLines given e → notes ≡ e.notes → dead (plain_of e) ≡ [] → IsRunOf 1 1 lines notes
   run-whole lines given e notes is taken same clean =
       let blocks : AreBlocks (first_run (opening 1 1)) lines e.notes = subst (λ ls. AreBlocks (first_run (opening 1 1)) ls e.notes) is taken.blocks in
       let empty : dead (after_all (opening 1 1) e.notes) ≡ [] = subst (λ (x : ℕ × ℕ). dead (after_all (opening x.0 x.1) e.notes) ≡ []) (λ i. (taken.first_seq i, taken.first_file i)) clean in

@@ -1,20 +1,22 @@
 -- What a run says of open questions, and what a settle and a question in parts add.
 use Rattle.std.proofs.Common.{◌≡◌, ℕ, ◌+◌, ◌≤◌, Bool, true, false, not, ◌&&◌, cond, eqb, List, [], ◌∷◌, get_or, Option, Some, None, is_some, refl, sym, ap, ◌∙◌, subst, arith}
 use Rattle.std.specs.List.{All}
+use Rattle.std.specs.Option.{option_map}
 use Rattle.std.proofs.lemmas.Bool.{ne_eqb}
 use Rattle.std.proofs.lemmas.List.Elements.{All-filter, All-push}
 use Rattle.std.proofs.lemmas.List.Folds.{list_any_none}
 use Rattle.xdb_lists.proofs.PlaceLaws.{under-number, under-all}
-use Rattle.xdb_engine.proofs.QuestionLaws.{found-plain}
-use Rattle.xdb_engine.specs.Asks.{IsAsked, IsAskedOf}
-use Rattle.xdb_engine.specs.Notes.{plain_note}
-use Rattle.xdb_engine.specs.Questions.{Asking, asking, found, without, answer_of, answer_act, settle_act, settle_reply, settle_leaves}
-use Rattle.xdb_engine.specs.Seen.{Seen, plain_of, Adds}
-use Rattle.xdb_key.specs.Groups.{Group}
+use Rattle.xdb_engine.proofs.AskLaws.{plain-found}
+use Rattle.xdb_engine.specs.Asks.{Grounds, IsAsked, IsAskedOf, plain_grounds}
+use Rattle.xdb_engine.specs.Notes.{ask_note}
+use Rattle.xdb_steps.specs.Notes.{plain_note}
+use Rattle.xdb_engine.specs.Ends.{after_settle, answer_of, answer_act, settle_act, settle_leaves, settle_note, settle_reply}
+use Rattle.xdb_engine.specs.Questions.{Asking, asking, plain_question, question_of, without}
+use Rattle.xdb_engine.specs.View.{EngineView, plain_of, Adds}
 use Rattle.xdb_order.specs.Desk.{fresh_story}
 use Rattle.xdb_plain.specs.Counts.{is_among}
 use Rattle.xdb_plain.specs.Runs.{Run, question_waits, is_not_yet, IsWaited}
-use Rattle.xdb_plain.specs.State.{groups, found_question}
+use Rattle.xdb_plain.specs.State.{found_question}
 use Rattle.xdb_plain.specs.Steps.{asked_number}
 use Rattle.xdb_plain.specs.declared.act.Act.TheVariants as act
 use Rattle.xdb_plain.specs.declared.act.By.{By}
@@ -37,17 +39,19 @@ module _ {F : Type 0} where
   waits_for_work None = false
   waits_for_work (Some q) = not (is_some q.kept)
 
-  -- what the run says of the question that is found
-  pub awaits : (r : Run) (e : Seen F) (ask : ℕ) (q : Asking F) → IsAt r e → found ask e.questions ≡ Some q → Awaits r.worked q
+  -- what the run says of the question that is question_of
+  pub awaits : (r : Run) (e : EngineView F) (ask : ℕ) (q : Asking F) → IsAt r e → question_of ask e.questions ≡ Some q → Awaits r.worked q
   awaits r e ask q at there = under-all (λ (x : Asking F). x.ask) (Awaits r.worked) ask q e.questions at.questions there
 
-  pub waits-by : (r : Run) (e : Seen F) (ask : ℕ) (o : Option (Asking F)) → IsAt r e → KnowsQuestions e → found ask e.questions ≡ o → question_waits r ask ≡ waits_for_work o
-  waits-by r e ask None at knows there =
-      ap (λ x. is_some x && not (is_among ask r.worked)) (ap (λ p. found_question ask p.questions) at.plain ∙ found-plain ask e.questions (plain_of e).questions None knows.questions there)
-  waits-by r e ask (Some q) at knows there =
-      let is : q.ask ≡ ask = under-number (λ (x : Asking F). x.ask) ask q e.questions there in
-      ap (λ x. is_some x && not (is_among ask r.worked)) (ap (λ p. found_question ask p.questions) at.plain ∙ found-plain ask e.questions (plain_of e).questions (Some q) knows.questions there)
-      ∙ ap (λ n. not (is_among n r.worked)) (sym is) ∙ ap not (sym (awaits r e ask q at there).kept)
+  pub waits-by : (r : Run) (e : EngineView F) (ask : ℕ) (o : Option (Asking F)) → IsAt r e → KnowsQuestions e → question_of ask e.questions ≡ o → question_waits r ask ≡ waits_for_work o
+  waits-by r e ask o at knows there =
+      ap (λ x. is_some x && not (is_among ask r.worked)) (ap (λ p. found_question ask p.questions) at.plain ∙ ap (found_question ask) (sym knows.questions) ∙ plain-found ask e.questions o there)
+      ∙ by o there
+    where
+      by : (o : Option (Asking F)) → question_of ask e.questions ≡ o → (is_some (option_map plain_question o) && not (is_among ask r.worked)) ≡ waits_for_work o
+      by None there = refl
+      by (Some q) there =
+          ap (λ n. not (is_among n r.worked)) (sym (under-number (λ (x : Asking F). x.ask) ask q e.questions there)) ∙ ap not (sym (awaits r e ask q at there).kept)
 
   -- ---- a settle
 
@@ -65,7 +69,7 @@ module _ {F : Type 0} where
     ap (λ k. is_not_yet (answer_of k)) e ∙ sym (w ∙ ap (λ (k : Option ReadDone). not (is_some k)) e),
   )
 
-  settle-block : (r : Run) (e : Seen F) (by : By) (ask : ℕ) (o : Option (Asking F)) → IsAt r e → KnowsQuestions e → found ask e.questions ≡ o → IsWaited by (act.Settle ask) (question_waits r ask) (plain_note by (settle_act ask o) (settle_reply o) ∷ [])
+  settle-block : (r : Run) (e : EngineView F) (by : By) (ask : ℕ) (o : Option (Asking F)) → IsAt r e → KnowsQuestions e → question_of ask e.questions ≡ o → IsWaited by (act.Settle ask) (question_waits r ask) (plain_note by (settle_act ask o) (settle_reply o) ∷ [])
   settle-block r e by ask None at knows there = (record { same_by = refl; same_act = refl }, sym (waits-by r e ask None at knows there))
   settle-block r e by ask (Some q) at knows there =
       settle-kept by ask q (question_waits r ask) q.kept refl (awaits r e ask q at there).parted
@@ -79,9 +83,9 @@ module _ {F : Type 0} where
       by true = All-filter (λ q. not (eqb q.ask ask)) P qs all
       by false = all
 
-  pub settle-takes : {old new : Seen F} {by : By} {ask : ℕ} {told : Reply} → KnowsQuestions old → Adds old new (plain_note by (settle_act ask (found ask old.questions)) told) → told ≡ settle_reply (found ask old.questions) → new.questions ≡ settle_leaves ask (found ask old.questions) old.questions → TakesLine old new (Some by) (cmd.Settle ask)
+  pub settle-takes : {old new : EngineView F} {by : By} {ask : ℕ} {told : Reply} → KnowsQuestions old → Adds old new (settle_note by ask old.questions told) → told ≡ settle_reply (question_of ask old.questions) → new.questions ≡ after_settle ask old.questions → TakesLine old new (Some by) (cmd.Settle ask)
   settle-takes {old} {new} {by} {ask} {told} knows adds is left =
-      let o = found ask old.questions in
+      let o = question_of ask old.questions in
       takes (grows-one adds) refl
       (λ r at. subst (λ x. IsWaited by (act.Settle ask) (question_waits r ask) (plain_note by (settle_act ask o) x ∷ [])) (sym is) (settle-block r old by ask o at knows refl))
       (λ r at. subst (λ qs. All (Awaits r.worked) qs) (sym left) (all-left (Awaits r.worked) ask o old.questions at.questions))
@@ -89,18 +93,18 @@ module _ {F : Type 0} where
   -- ---- a question in parts
 
   -- the questions behind the ask
-  asked-await : (gs : List Group) (next asked later : ℕ) (old new : List (Asking F)) (by : By) (question : Question) (told : Reply) (hand : Option (ReadParts F)) (ws : List ℕ) → IsAsked gs next asked old new later by question true told hand → All (Awaits ws) old → All (λ n. n ≤ asked) ws → All (Awaits ws) new
-  asked-await gs next asked later old new by question (reply.Asked ask) (Some given) ws is all low =
+  asked-await : (g : Grounds F) (new : List (Asking F)) (by : By) (question : Question) (told : Reply) (hand : Option (ReadParts F)) (ws : List ℕ) → IsAsked g new by question true told hand → All (Awaits ws) g.questions → All (λ n. n ≤ g.asked) ws → All (Awaits ws) new
+  asked-await g new by question (reply.Asked ask) (Some given) ws is all low =
       subst (λ qs. All (Awaits ws) qs) (sym is.opened)
-      (All-push (Awaits ws) old (asking ask by true given fresh_story None) all (record { parted = refl; kept = sym (not-among ask asked ws low is.number) }))
-  asked-await gs next asked later old new by question reply.NoSuch None ws is all low = subst (λ qs. All (Awaits ws) qs) (sym is.0.same) all
-  asked-await gs next asked later old new by question reply.TooMany None ws is all low = subst (λ qs. All (Awaits ws) qs) (sym is.0.same) all
-  asked-await gs next asked later old new by question reply.Memory None ws is all low = subst (λ qs. All (Awaits ws) qs) (sym is.0.same) all
-  asked-await gs next asked later old new by question _ _ ws is all low = absurd is
+      (All-push (Awaits ws) g.questions (asking ask by true given fresh_story None) all (record { parted = refl; kept = sym (not-among ask g.asked ws low is.number) }))
+  asked-await g new by question reply.NoSuch None ws is all low = subst (λ qs. All (Awaits ws) qs) (sym is.0) all
+  asked-await g new by question reply.TooMany None ws is all low = subst (λ qs. All (Awaits ws) qs) (sym is.0) all
+  asked-await g new by question reply.Memory None ws is all low = subst (λ qs. All (Awaits ws) qs) (sym is.0) all
+  asked-await g new by question _ _ ws is all low = absurd is
 
-  pub ask-takes : {old new : Seen F} {by : By} {question : Question} {told : Reply} (hand : Option (ReadParts F)) → Adds old new (plain_note by (act.Ask (asked_number told) question true) told) → IsAskedOf old new by question true told hand → TakesLine old new (Some by) (cmd.Ask question true)
+  pub ask-takes : {old new : EngineView F} {by : By} {question : Question} {told : Reply} (hand : Option (ReadParts F)) → Adds old new (ask_note by question true told) → IsAskedOf old new by question true told hand → TakesLine old new (Some by) (cmd.Ask question true)
   ask-takes {old} {new} {by} {question} {told} hand adds is =
       takes (grows-one adds) refl
       (λ r at. (asked_number told, record { same_by = refl; same_act = refl }))
-      (λ r at. asked-await (groups (plain_of old)) (plain_of old).next (plain_of old).asked (plain_of new).asked old.questions new.questions by question told hand r.worked is at.questions
+      (λ r at. asked-await (plain_grounds old) new.questions by question told hand r.worked is at.questions
       (subst (λ p. All (λ n. n ≤ p.asked) r.worked) at.plain at.given))

@@ -4,15 +4,14 @@ use Rattle.std.proofs.lemmas.Bool.{eq-eqb, false≢true}
 use Rattle.std.proofs.lemmas.List.Elements.{filter-append}
 use Rattle.xdb_lists.specs.Keyed.{without as others, replaced as placed}
 use Rattle.xdb_lists.proofs.PlaceLaws.{under-none, under-pushed, under-placed, others-none}
-use Rattle.xdb_engine.specs.Asks.{IsAsked, IsAskedOf}
-use Rattle.xdb_engine.specs.Notes.{plain_note}
-use Rattle.xdb_engine.specs.Questions.{Asking, asking, found, without, looked, settle_act, settle_reply, settle_leaves}
-use Rattle.xdb_engine.specs.Seen.{Seen, plain_of, Adds}
-use Rattle.xdb_engine.specs.Stands.{IsNumbered}
-use Rattle.xdb_key.specs.Groups.{Group}
+use Rattle.xdb_engine.specs.Asks.{Grounds, IsAsked, IsAskedOf, plain_grounds}
+use Rattle.xdb_engine.specs.Notes.{ask_note}
+use Rattle.xdb_steps.specs.Notes.{plain_note}
+use Rattle.xdb_engine.specs.Ends.{after_settle, settle_act, settle_leaves, settle_note, settle_reply}
+use Rattle.xdb_engine.specs.Questions.{Asking, HasNumber, asking, question_of, without, with_story}
+use Rattle.xdb_engine.specs.View.{EngineView, plain_of, Adds}
 use Rattle.xdb_order.specs.Desk.{fresh_story}
 use Rattle.xdb_plain.specs.Printed.{is_asked}
-use Rattle.xdb_plain.specs.State.{groups}
 use Rattle.xdb_plain.specs.Steps.{asked_number}
 use Rattle.xdb_plain.specs.declared.act.Act.TheVariants as act
 use Rattle.xdb_plain.specs.declared.act.By.{By}
@@ -22,7 +21,7 @@ use Rattle.xdb_plain.specs.declared.reply.Reply.{Reply}
 use Rattle.xdb_plain.specs.declared.reply.Reply.TheVariants as reply
 use Rattle.xdb_plain.specs.declared.script.Cmd.TheVariants as cmd
 use Rattle.xdb_read.specs.declared.parts.ReadParts.{ReadParts}
-use Rattle.xdb_run.specs.Running.{Grows, TakesLine, KnowsQuestions}
+use Rattle.xdb_run.specs.Running.{Grows, KnowsQuestions, TakesLine}
 use Rattle.xdb_run.specs.Working.{Keeps, Lacks, EndsWork}
 use Rattle.xdb_run.specs.declared.works.WorkEnd.{WorkEnd}
 use Rattle.xdb_run.specs.declared.works.WorkEnd.TheVariants.{NoSuch, Kept, Failed}
@@ -44,68 +43,68 @@ off-asked _ off = refl
 
 module _ {F : Type 0} where
   -- The question of a read is open under this number, and without it the questions are those before.
-  pub record OpensRead (old one : Seen F) (by : By) (question : Question) (ask : ℕ) : Type 0 where
+  pub record OpensRead (old one : EngineView F) (by : By) (question : Question) (ask : ℕ) : Type 0 where
     pub given : ReadParts F
     pub same_question : given.question ≡ question
     pub note : Adds old one (plain_note by (act.Ask ask question false) (reply.Asked ask))
-    pub there : found ask one.questions ≡ Some (asking ask by false given fresh_story None)
+    pub there : question_of ask one.questions ≡ Some (asking ask by false given fresh_story None)
     pub apart : without ask one.questions ≡ old.questions
 
-  asked-opens : (old one : Seen F) (by : By) (question : Question) (ask : ℕ) (hand : Option (ReadParts F)) → KnowsQuestions old → Adds old one (plain_note by (act.Ask ask question false) (reply.Asked ask)) → IsAskedOf old one by question false (reply.Asked ask) hand → OpensRead old one by question ask
+  asked-opens : (old one : EngineView F) (by : By) (question : Question) (ask : ℕ) (hand : Option (ReadParts F)) → KnowsQuestions old → Adds old one (plain_note by (act.Ask ask question false) (reply.Asked ask)) → IsAskedOf old one by question false (reply.Asked ask) hand → OpensRead old one by question ask
   asked-opens old one by question ask None knows adds is = absurd is
   asked-opens old one by question ask (Some given) knows adds is =
       let q : Asking F = asking ask by false given fresh_story None in
       let number : ask ≡ (plain_of old).asked + 1 = is.number in
-      let none : found ask old.questions ≡ None = under-none (λ (x : Asking F). x.ask) (IsNumbered (plain_of old).asked) ask old.questions knows.numbers (λ x n e. let low : x.ask ≤ (plain_of old).asked = n.given in omega arith) in
-      let same : without ask old.questions ≡ old.questions = others-none (λ (x : Asking F). x.ask) (IsNumbered (plain_of old).asked) ask old.questions knows.numbers (λ x n e. let low : x.ask ≤ (plain_of old).asked = n.given in omega arith) in
+      let none : question_of ask old.questions ≡ None = under-none (λ (x : Asking F). x.ask) (HasNumber (plain_of old).asked) ask old.questions knows.numbers (λ x n e. let low : x.ask ≤ (plain_of old).asked = n.given in omega arith) in
+      let same : without ask old.questions ≡ old.questions = others-none (λ (x : Asking F). x.ask) (HasNumber (plain_of old).asked) ask old.questions knows.numbers (λ x n e. let low : x.ask ≤ (plain_of old).asked = n.given in omega arith) in
       record {
         given = given;
         same_question = is.parts.same_question;
         note = adds;
-        there = ap (found ask) is.opened ∙ under-pushed (λ (x : Asking F). x.ask) ask q old.questions none refl;
+        there = ap (question_of ask) is.opened ∙ under-pushed (λ (x : Asking F). x.ask) ask q old.questions none refl;
         apart = ap (without ask) is.opened ∙ filter-append (λ (x : Asking F). not (eqb x.ask ask)) old.questions (q ∷ [])
             ∙ ap (λ t. without ask old.questions ++ cond (not t) (q ∷ []) []) (eq-eqb ask ask refl) ∙ append-nil (without ask old.questions) ∙ same;
       }
 
-  pub opens-read : {old one : Seen F} {by : By} {question : Question} {told : Reply} {ask : ℕ} (hand : Option (ReadParts F)) → told ≡ reply.Asked ask → KnowsQuestions old → Adds old one (plain_note by (act.Ask (asked_number told) question false) told) → IsAskedOf old one by question false told hand → OpensRead old one by question ask
+  pub opens-read : {old one : EngineView F} {by : By} {question : Question} {told : Reply} {ask : ℕ} (hand : Option (ReadParts F)) → told ≡ reply.Asked ask → KnowsQuestions old → Adds old one (ask_note by question false told) → IsAskedOf old one by question false told hand → OpensRead old one by question ask
   opens-read {old} {one} {by} {question} {told} {ask} hand is knows adds asked =
-      asked-opens old one by question ask hand knows (subst (λ t. Adds old one (plain_note by (act.Ask (asked_number t) question false) t)) is adds) (subst (λ t. IsAskedOf old one by question false t hand) is asked)
+      asked-opens old one by question ask hand knows (subst (λ t. Adds old one (ask_note by question false t)) is adds) (subst (λ t. IsAskedOf old one by question false t hand) is asked)
 
   -- The question isn't opened.
-  off-questions : (gs : List Group) (next asked later : ℕ) (old new : List (Asking F)) (by : By) (question : Question) (told : Reply) (hand : Option (ReadParts F)) → IsAsked gs next asked old new later by question false told hand → ((n : ℕ) → told ≡ reply.Asked n → ⊥) → new ≡ old
-  off-questions gs next asked later old new by question reply.NoSuch None is off = is.0.same
-  off-questions gs next asked later old new by question reply.TooMany None is off = is.0.same
-  off-questions gs next asked later old new by question reply.Memory None is off = is.0.same
-  off-questions gs next asked later old new by question (reply.Asked ask) hand is off = absurd (off ask refl)
-  off-questions gs next asked later old new by question _ _ is off = absurd is
+  off-questions : (g : Grounds F) (new : List (Asking F)) (by : By) (question : Question) (told : Reply) (hand : Option (ReadParts F)) → IsAsked g new by question false told hand → ((n : ℕ) → told ≡ reply.Asked n → ⊥) → new ≡ g.questions
+  off-questions g new by question reply.NoSuch None is off = is.0
+  off-questions g new by question reply.TooMany None is off = is.0
+  off-questions g new by question reply.Memory None is off = is.0
+  off-questions g new by question (reply.Asked ask) hand is off = absurd (off ask refl)
+  off-questions g new by question _ _ is off = absurd is
 
-  pub refused-takes : {old new : Seen F} {by : By} {question : Question} {told : Reply} (hand : Option (ReadParts F)) → ((n : ℕ) → told ≡ reply.Asked n → ⊥) → Adds old new (plain_note by (act.Ask (asked_number told) question false) told) → IsAskedOf old new by question false told hand → TakesLine old new (Some by) (cmd.Ask question false)
+  pub refused-takes : {old new : EngineView F} {by : By} {question : Question} {told : Reply} (hand : Option (ReadParts F)) → ((n : ℕ) → told ≡ reply.Asked n → ⊥) → Adds old new (ask_note by question false told) → IsAskedOf old new by question false told hand → TakesLine old new (Some by) (cmd.Ask question false)
   refused-takes {old} {new} {by} {question} {told} hand off adds is =
       takes-alike (grows-one adds) refl
       (λ r at. (asked_number told, record { same_by = refl; same_act = refl }, off-asked told off))
-      (off-questions (groups (plain_of old)) (plain_of old).next (plain_of old).asked (plain_of new).asked old.questions new.questions by question told hand is off)
+      (off-questions (plain_grounds old) new.questions by question told hand is off)
 
   -- The second note of a read ends its question.
-  ends-read : {old one two new : Seen F} {by : By} {question : Question} {ask : ℕ} {note : Note} → OpensRead old one by question ask → Grows one two [] → Adds two new note → note.by ≡ by → note.act ≡ act.Ask ask question false → is_asked note.reply ≡ false → new.questions ≡ old.questions → TakesLine old new (Some by) (cmd.Ask question false)
+  ends-read : {old one two new : EngineView F} {by : By} {question : Question} {ask : ℕ} {note : Note} → OpensRead old one by question ask → Grows one two [] → Adds two new note → note.by ≡ by → note.act ≡ act.Ask ask question false → is_asked note.reply ≡ false → new.questions ≡ old.questions → TakesLine old new (Some by) (cmd.Ask question false)
   ends-read {ask = ask} opens grows adds same_by same_act off same =
       takes-alike (grows-more (grows-one opens.note) (grows-more grows (grows-one adds))) refl
       (λ r at. (ask, record { same_by = refl; same_act = refl }, refl, record { same_by = same_by; same_act = same_act }, off))
       same
 
   -- The result is kept, and a settle answers it.
-  pub answered-takes : {old one two new : Seen F} {by : By} {question : Question} {ask : ℕ} {told : Reply} → OpensRead old one by question ask → EndsWork (found ask one.questions) Kept one two → Adds two new (plain_note by (settle_act ask (found ask two.questions)) told) → told ≡ settle_reply (found ask two.questions) → new.questions ≡ settle_leaves ask (found ask two.questions) two.questions → TakesLine old new (Some by) (cmd.Ask question false)
+  pub answered-takes : {old one two new : EngineView F} {by : By} {question : Question} {ask : ℕ} {told : Reply} → OpensRead old one by question ask → EndsWork (question_of ask one.questions) Kept one two → Adds two new (settle_note by ask two.questions told) → told ≡ settle_reply (question_of ask two.questions) → new.questions ≡ after_settle ask two.questions → TakesLine old new (Some by) (cmd.Ask question false)
   answered-takes {old} {one} {two} {new} {by} {question} {ask} opens ends adds says left =
       let q : Asking F = asking ask by false opens.given fresh_story None in
       let k : Keeps q one two = subst (λ o. EndsWork o Kept one two) opens.there ends in
-      let r : Asking F = looked q fresh_story (Some k.done) in
-      let there : found ask two.questions ≡ Some r = ap (λ e. found ask e.questions) k.keeps ∙ under-placed (λ (x : Asking F). x.ask) ask q r one.questions refl opens.there in
+      let r : Asking F = with_story q fresh_story (Some k.done) in
+      let there : question_of ask two.questions ≡ Some r = ap (λ e. question_of ask e.questions) k.keeps ∙ under-placed (λ (x : Asking F). x.ask) ask q r one.questions refl opens.there in
       ends-read opens (grows-none (ap (λ e. e.notes) k.keeps) (ap (λ e. e.first_seq) k.keeps) (ap (λ e. e.first_file) k.keeps)) adds refl
       (ap (settle_act ask) there ∙ ap (λ x. act.Ask ask x false) opens.same_question)
       (ap is_asked (says ∙ ap settle_reply there))
       (left ∙ ap (λ o. settle_leaves ask o two.questions) there ∙ ap (λ e. without ask e.questions) k.keeps ∙ others-placed (λ (x : Asking F). x.ask) ask r one.questions refl ∙ opens.apart)
 
   -- No result is kept: an allocation failed.
-  pub unanswered-takes : {old one new : Seen F} {by : By} {question : Question} {ask : ℕ} → OpensRead old one by question ask → (end : WorkEnd) → EndsWork (found ask one.questions) end one new → (end ≡ Kept → ⊥) → TakesLine old new (Some by) (cmd.Ask question false)
+  pub unanswered-takes : {old one new : EngineView F} {by : By} {question : Question} {ask : ℕ} → OpensRead old one by question ask → (end : WorkEnd) → EndsWork (question_of ask one.questions) end one new → (end ≡ Kept → ⊥) → TakesLine old new (Some by) (cmd.Ask question false)
   unanswered-takes {old} {one} {new} {by} {question} {ask} opens Failed ends off =
       let l : Lacks (asking ask by false opens.given fresh_story None) one new = subst (λ o. EndsWork o Failed one new) opens.there ends in
       ends-read opens (grows-none refl refl refl) l.note refl (ap (λ x. act.Ask ask x false) opens.same_question) refl (l.leaves ∙ opens.apart)

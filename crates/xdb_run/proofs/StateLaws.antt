@@ -1,7 +1,7 @@
 -- The state that a run and an engine have come to, and how a block takes both on.
 use Rattle.std.proofs.Common.{◌≡◌, ◌≤◌, List, [], ◌∷◌, ◌++◌, append-nil, append_assoc, get_or, Option, refl, sym, ap, ◌∙◌, subst, arith}
 use Rattle.std.specs.List.{All}
-use Rattle.xdb_engine.specs.Seen.{Seen, plain_of, Adds}
+use Rattle.xdb_engine.specs.View.{EngineView, plain_of, Adds}
 use Rattle.xdb_plain.specs.Changes.{after, asked_after}
 use Rattle.xdb_plain.specs.Legal.{after_all}
 use Rattle.xdb_plain.specs.Outcomes.{Outcome, begins, outcome}
@@ -35,27 +35,27 @@ after_all-append p (note ∷ notes) more = after_all-append (after p note) notes
 module _ {F : Type 0} where
   -- ---- notes more
 
-  pub grows-none : {old new : Seen F} → new.notes ≡ old.notes → new.first_seq ≡ old.first_seq → new.first_file ≡ old.first_file → Grows old new []
+  pub grows-none : {old new : EngineView F} → new.notes ≡ old.notes → new.first_seq ≡ old.first_seq → new.first_file ≡ old.first_file → Grows old new []
   grows-none {old} notes seq file = record { notes = notes ∙ sym (append-nil old.notes); first_seq = seq; first_file = file }
 
-  pub grows-one : {old new : Seen F} {note : Note} → Adds old new note → Grows old new (note ∷ [])
+  pub grows-one : {old new : EngineView F} {note : Note} → Adds old new note → Grows old new (note ∷ [])
   grows-one adds = record { notes = adds.notes; first_seq = adds.first_seq; first_file = adds.first_file }
 
-  pub grows-more : {old mid new : Seen F} {xs ys : List Note} → Grows old mid xs → Grows mid new ys → Grows old new (xs ++ ys)
+  pub grows-more : {old mid new : EngineView F} {xs ys : List Note} → Grows old mid xs → Grows mid new ys → Grows old new (xs ++ ys)
   grows-more {old} {mid} {new} {xs} {ys} first second = record {
     notes = second.notes ∙ ap (λ ns. ns ++ ys) first.notes ∙ append_assoc old.notes xs ys;
     first_seq = second.first_seq ∙ first.first_seq;
     first_file = second.first_file ∙ first.first_file;
   }
 
-  pub plain-grows : {old new : Seen F} {block : List Note} → Grows old new block → plain_of new ≡ after_all (plain_of old) block
+  pub plain-grows : {old new : EngineView F} {block : List Note} → Grows old new block → plain_of new ≡ after_all (plain_of old) block
   plain-grows {old} {new} {block} g =
       (λ i. after_all (opening (g.first_seq i) (g.first_file i)) (g.notes i)) ∙ after_all-append (opening old.first_seq old.first_file) old.notes block
 
   -- ---- lines
 
   -- a line that delivers no work
-  pub takes : {old new : Seen F} {by : Option By} {c : Cmd} {block : List Note} → Grows old new block → worked_by c block ≡ [] → ((r : Run) → IsAt r old → IsBlock r by c block) → ((r : Run) → IsAt r old → All (Awaits r.worked) new.questions) → TakesLine old new by c
+  pub takes : {old new : EngineView F} {by : Option By} {c : Cmd} {block : List Note} → Grows old new block → worked_by c block ≡ [] → ((r : Run) → IsAt r old → IsBlock r by c block) → ((r : Run) → IsAt r old → All (Awaits r.worked) new.questions) → TakesLine old new by c
   takes {old} {new} {by} {c} {block} grows none is_block questions = record {
     block = block;
     grows = grows;
@@ -71,5 +71,5 @@ module _ {F : Type 0} where
   }
 
   -- a line behind which the questions are as before
-  pub takes-alike : {old new : Seen F} {by : Option By} {c : Cmd} {block : List Note} → Grows old new block → worked_by c block ≡ [] → ((r : Run) → IsAt r old → IsBlock r by c block) → new.questions ≡ old.questions → TakesLine old new by c
+  pub takes-alike : {old new : EngineView F} {by : Option By} {c : Cmd} {block : List Note} → Grows old new block → worked_by c block ≡ [] → ((r : Run) → IsAt r old → IsBlock r by c block) → new.questions ≡ old.questions → TakesLine old new by c
   takes-alike grows none is_block same = takes grows none is_block (λ r at. subst (λ qs. All (Awaits r.worked) qs) (sym same) at.questions)

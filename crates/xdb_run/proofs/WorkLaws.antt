@@ -5,10 +5,9 @@ use Rattle.std.proofs.lemmas.Bool.{cases_Bool, eqb-true, eq-eqb, or_left, or_rig
 use Rattle.std.proofs.lemmas.List.Elements.{All-filter, All-push}
 use Rattle.std.proofs.lemmas.List.Folds.{list_any-append}
 use Rattle.xdb_lists.proofs.PlaceLaws.{under-number, under-all, all-placed}
-use Rattle.xdb_engine.specs.Notes.{plain_note}
-use Rattle.xdb_engine.specs.Questions.{Asking, found, looked}
-use Rattle.xdb_engine.specs.Seen.{Seen, plain_of, Adds}
-use Rattle.xdb_engine.specs.Stands.{IsNumbered}
+use Rattle.xdb_steps.specs.Notes.{plain_note}
+use Rattle.xdb_engine.specs.Questions.{Asking, HasNumber, question_of, with_story}
+use Rattle.xdb_engine.specs.View.{EngineView, plain_of, Adds}
 use Rattle.xdb_plain.specs.Counts.{is_among}
 use Rattle.xdb_plain.specs.Runs.{is_no_such}
 use Rattle.xdb_plain.specs.declared.act.Act.TheVariants as act
@@ -17,7 +16,7 @@ use Rattle.xdb_plain.specs.declared.reply.Reply.{Reply}
 use Rattle.xdb_plain.specs.declared.reply.Reply.TheVariants as reply
 use Rattle.xdb_plain.specs.declared.script.Cmd.TheVariants as cmd
 use Rattle.xdb_read.specs.declared.parts.ReadDone.{ReadDone}
-use Rattle.xdb_run.specs.Running.{Awaits, TakesLine, KnowsQuestions}
+use Rattle.xdb_run.specs.Running.{Awaits, KnowsQuestions, TakesLine}
 use Rattle.xdb_run.specs.Working.{EndsWork}
 use Rattle.xdb_run.specs.declared.works.WorkEnd.{WorkEnd}
 use Rattle.xdb_run.specs.declared.works.WorkEnd.TheVariants.{NoSuch, Kept, Failed}
@@ -44,12 +43,12 @@ among-others ws ask n other = among-pushed n ask ws ∙ ap (λ t. is_among n ws 
 
 module _ {F : Type 0} where
   -- The result is kept, and the line has no note.
-  work-keeps : {old new : Seen F} (ask : ℕ) (o : Option (Asking F)) → KnowsQuestions old → found ask old.questions ≡ o → EndsWork o Kept old new → TakesLine old new (Some Db) (cmd.Work ask)
+  work-keeps : {old new : EngineView F} (ask : ℕ) (o : Option (Asking F)) → KnowsQuestions old → question_of ask old.questions ≡ o → EndsWork o Kept old new → TakesLine old new (Some Db) (cmd.Work ask)
   work-keeps ask None knows there k = absurd k
   work-keeps {old} {new} ask (Some q) knows there k =
-      let r : Asking F = looked q q.story (Some k.done) in
+      let r : Asking F = with_story q q.story (Some k.done) in
       let same : q.ask ≡ ask = under-number (λ (x : Asking F). x.ask) ask q old.questions there in
-      let numbered : IsNumbered (plain_of old).asked q = under-all (λ (x : Asking F). x.ask) (IsNumbered (plain_of old).asked) ask q old.questions knows.numbers there in
+      let numbered : HasNumber (plain_of old).asked q = under-all (λ (x : Asking F). x.ask) (HasNumber (plain_of old).asked) ask q old.questions knows.numbers there in
       subst (λ e. TakesLine old e (Some Db) (cmd.Work ask)) (sym k.keeps) (record {
         block = [];
         grows = record { notes = sym (append-nil old.notes); first_seq = refl; first_file = refl };
@@ -66,7 +65,7 @@ module _ {F : Type 0} where
       })
 
   -- An allocation failed.
-  work-lacks : {old new : Seen F} (ask : ℕ) (o : Option (Asking F)) → KnowsQuestions old → found ask old.questions ≡ o → EndsWork o Failed old new → TakesLine old new (Some Db) (cmd.Work ask)
+  work-lacks : {old new : EngineView F} (ask : ℕ) (o : Option (Asking F)) → KnowsQuestions old → question_of ask old.questions ≡ o → EndsWork o Failed old new → TakesLine old new (Some Db) (cmd.Work ask)
   work-lacks ask None knows there l = absurd l
   work-lacks {old} {new} ask (Some q) knows there l =
       let same : q.ask ≡ ask = under-number (λ (x : Asking F). x.ask) ask q old.questions there in
@@ -82,20 +81,20 @@ module _ {F : Type 0} where
       (λ r at. subst (λ qs. All (Awaits r.worked) qs) (sym l.leaves) (All-filter (λ x. not (eqb x.ask q.ask)) (Awaits r.worked) old.questions at.questions))
 
   -- There was work to do.
-  pub work-ends : {old new : Seen F} (ask : ℕ) (end : WorkEnd) → KnowsQuestions old → EndsWork (found ask old.questions) end old new → (end ≡ NoSuch → ⊥) → TakesLine old new (Some Db) (cmd.Work ask)
+  pub work-ends : {old new : EngineView F} (ask : ℕ) (end : WorkEnd) → KnowsQuestions old → EndsWork (question_of ask old.questions) end old new → (end ≡ NoSuch → ⊥) → TakesLine old new (Some Db) (cmd.Work ask)
   work-ends ask NoSuch knows ends off = absurd (off refl)
-  work-ends {old} ask Kept knows ends off = work-keeps ask (found ask old.questions) knows refl ends
-  work-ends {old} ask Failed knows ends off = work-lacks ask (found ask old.questions) knows refl ends
+  work-ends {old} ask Kept knows ends off = work-keeps ask (question_of ask old.questions) knows refl ends
+  work-ends {old} ask Failed knows ends off = work-lacks ask (question_of ask old.questions) knows refl ends
 
   -- There is no such work to do.
-  none-ends : (o : Option (Asking F)) (old new : Seen F) → EndsWork o NoSuch old new → (new ≡ old) × (waits_for_work o ≡ false)
+  none-ends : (o : Option (Asking F)) (old new : EngineView F) → EndsWork o NoSuch old new → (new ≡ old) × (waits_for_work o ≡ false)
   none-ends None old new is = (is, refl)
   none-ends (Some q) old new is = (is.1, ap not is.0)
 
-  pub work-none : {old mid new : Seen F} {ask : ℕ} {told : Reply} → KnowsQuestions old → EndsWork (found ask old.questions) NoSuch old mid → Adds mid new (plain_note Db (act.Work ask) told) → told ≡ reply.NoSuch → new.questions ≡ mid.questions → TakesLine old new (Some Db) (cmd.Work ask)
+  pub work-none : {old mid new : EngineView F} {ask : ℕ} {told : Reply} → KnowsQuestions old → EndsWork (question_of ask old.questions) NoSuch old mid → Adds mid new (plain_note Db (act.Work ask) told) → told ≡ reply.NoSuch → new.questions ≡ mid.questions → TakesLine old new (Some Db) (cmd.Work ask)
   work-none {old} {mid} {new} {ask} {told} knows ends adds says same =
-      let none = none-ends (found ask old.questions) old mid ends in
+      let none = none-ends (question_of ask old.questions) old mid ends in
       let adds_old : Adds old new (plain_note Db (act.Work ask) told) = subst (λ e. Adds e new (plain_note Db (act.Work ask) told)) none.0 adds in
       takes-alike (grows-one adds_old) refl
-      (λ r at. (record { same_by = refl; same_act = refl }, ap is_no_such says ∙ sym (ap not (waits-by r old ask (found ask old.questions) at knows refl ∙ none.1))))
+      (λ r at. (record { same_by = refl; same_act = refl }, ap is_no_such says ∙ sym (ap not (waits-by r old ask (question_of ask old.questions) at knows refl ∙ none.1))))
       (same ∙ ap (λ e. e.questions) none.0)

@@ -1,9 +1,10 @@
 -- How work that is under way ends.
 use Rattle.std.specs.Prelude.{◌≡◌, true, Option, Some, None, Result, is_some, IfOk}
 use Rattle.std.specs.declared.alloc.AllocError.{AllocError}
-use Rattle.xdb_engine.specs.Notes.{plain_note}
-use Rattle.xdb_engine.specs.Questions.{Asking, without, replaced, looked, failure_act, failure_by}
-use Rattle.xdb_engine.specs.Seen.{Seen, Adds, with_questions}
+use Rattle.xdb_steps.specs.Notes.{plain_note}
+use Rattle.xdb_engine.specs.Ends.{failure_act, failure_by}
+use Rattle.xdb_engine.specs.Questions.{Asking, with_result, without}
+use Rattle.xdb_engine.specs.View.{EngineView, Adds, with_questions}
 use Rattle.xdb_plain.specs.declared.reply.Reply.TheVariants.{Memory}
 use Rattle.xdb_read.specs.Fits.{ReadFits}
 use Rattle.xdb_read.specs.declared.parts.ReadDone.{ReadDone}
@@ -19,20 +20,20 @@ module _ {F : Type 0} where
   IsWorkedOn (Some q) (Some result) = (q.kept ≡ None) × IfOk result (ReadFits q.given)
 
   -- The result of a question that had none is kept, and fits what was handed out for it.
-  pub record Keeps (q : Asking F) (old new : Seen F) : Type 0 where
+  pub record Keeps (q : Asking F) (old new : EngineView F) : Type 0 where
     pub waits : q.kept ≡ None
     pub done : ReadDone
-    pub keeps : new ≡ with_questions old (replaced (looked q q.story (Some done)) old.questions)
+    pub keeps : new ≡ with_questions old (with_result q done old.questions)
     pub fits : ReadFits q.given done
 
   -- An allocation failed in the work on a question that had no result: a note tells so, and the question is gone.
-  pub record Lacks (q : Asking F) (old new : Seen F) : Type 0 where
+  pub record Lacks (q : Asking F) (old new : EngineView F) : Type 0 where
     pub waits : q.kept ≡ None
     pub note : Adds old new (plain_note (failure_by q) (failure_act q) Memory)
     pub leaves : new.questions ≡ without q.ask old.questions
 
   -- How the work on a question ends. Without one, or where its result is kept already, there is none to do.
-  abbrev pub EndsWork : Option (Asking F) → WorkEnd → Seen F → Seen F → Type 0
+  abbrev pub EndsWork : Option (Asking F) → WorkEnd → EngineView F → EngineView F → Type 0
   EndsWork None NoSuch old new = new ≡ old
   EndsWork None _ old new = ⊥
   EndsWork (Some q) NoSuch old new = (is_some q.kept ≡ true) × (new ≡ old)

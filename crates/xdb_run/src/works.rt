@@ -1,6 +1,6 @@
 //! Work that is under way: done, and its result brought or its failure told.
 ghost use Rattle.std.specs.Prelude.{◌≤◌, Some};
-ghost use Rattle.xdb_engine.specs.Questions.{found_by};
+ghost use Rattle.xdb_engine.specs.Questions.{question_by};
 ghost use Rattle.xdb_plain.specs.declared.act.By.TheVariants.{Db};
 ghost use Rattle.xdb_plain.specs.declared.script.Cmd.TheVariants as cmd;
 ghost use Rattle.xdb_run.specs.Running.{IsReady, TakesLine};
@@ -37,7 +37,7 @@ pub fn work<F: FileRef, L: Ledger>(alloc: Global, engine: &mut Engine<F, L>, ask
 /// Does work that is under way and has no result yet, and brings its result or tells its failure.
 pub fn bring<F: FileRef, L: Ledger>(alloc: Global, engine: &mut Engine<F, L>, id: Id) -> WorkEnd
     requires room { 1 ≤ engine.old.spare }
-    ensures { EndsWork (found_by id engine.old.questions) result engine.old engine.new }
+    ensures { EndsWork (question_by id engine.old.questions) result engine.old engine.new }
 {
     match worked_on(alloc, engine, &id) {
         Some(Ok(done)) => {
@@ -58,7 +58,7 @@ fn worked_on<F: FileRef, L: Ledger>(
     engine: &Engine<F, L>,
     id: &Id,
 ) -> Option<Result<ReadDone, AllocError>>
-    ensures { IsWorkedOn (found_by id.now engine.now.questions) result }
+    ensures { IsWorkedOn (question_by id.now engine.now.questions) result }
 {
     if engine.is_kept(id) {
         return None;

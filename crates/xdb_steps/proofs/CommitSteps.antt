@@ -28,7 +28,7 @@ use Rattle.xdb_rangedel.proofs.MemberLaws.{Has-from_map}
 use Rattle.xdb_rangedel.specs.Content.{Item, seq_of, IsImage}
 use Rattle.xdb_rangedel.specs.Layers.{IsAllBelow}
 use Rattle.xdb_steps.specs.Core.{Core, committed_core}
-use Rattle.xdb_steps.specs.Keeps.{Agrees, Means}
+use Rattle.xdb_steps.specs.Keeps.{Agrees}
 use Rattle.xdb_steps.specs.Notes.{plain_note}
 use Rattle.xdb_steps.specs.Step.{Step}
 use Rattle.xdb_steps.proofs.Frame.{still}

@@ -1,17 +1,17 @@
 -- A question that ends in vain, and work that there is none of.
-use Rattle.std.proofs.Common.{◌≡◌, ℕ, Bool, true, false, cond, List, [], ◌∷◌, Option, Some, None, refl, sym, ap, ◌∙◌, subst, IsTrue}
+use Rattle.std.proofs.Common.{◌≡◌, ℕ, true, false, cond, [], ◌∷◌, Option, Some, None, refl, sym, ap, ◌∙◌, subst, IsTrue}
 use Rattle.std.proofs.lemmas.Bool.{false≢true}
 use Rattle.std.specs.List.{list_any}
 use Rattle.xdb_plain.specs.Replies.{same_reply, ask_replies, work_replies, build_replies}
 use Rattle.xdb_plain.specs.State.{Plain, OpenQuestion, Job, found_job, found_question, without_question}
-use Rattle.xdb_plain.specs.Steps.{FitsAsk, is_client}
+use Rattle.xdb_plain.specs.Steps.{FitsAsk}
 use Rattle.xdb_plain.specs.declared.act.Act.{Act}
 use Rattle.xdb_plain.specs.declared.act.Act.TheVariants as act
 use Rattle.xdb_plain.specs.declared.act.By.TheVariants.{Db}
 use Rattle.xdb_plain.specs.declared.answer.Answer.TheVariants.{Absent}
 use Rattle.xdb_plain.specs.declared.reply.Reply.TheVariants.{Answered, NoSuch, Memory, Fault, Damaged}
 use Rattle.xdb_steps.specs.Core.{Core, ended_core}
-use Rattle.xdb_steps.specs.Keeps.{Agrees, Means}
+use Rattle.xdb_steps.specs.Keeps.{Agrees}
 use Rattle.xdb_steps.specs.Notes.{plain_note, is_work}
 use Rattle.xdb_steps.specs.Step.{Step}
 use Rattle.xdb_steps.proofs.Found.{plain-some, numbered-at, IsTold}

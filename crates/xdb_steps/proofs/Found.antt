@@ -1,28 +1,35 @@
 -- The plain questions that a number finds, by those of the parts.
-use Rattle.std.proofs.Common.{◌≡◌, ℕ, ◌+◌, ◌<◌, Bool, true, false, not, cond, eqb, List, [], ◌∷◌, map, length, Option, Some, None, refl, sym, ap, ◌∙◌, arith}
+use Rattle.std.proofs.Common.{◌≡◌, ℕ, Bool, true, false, not, cond, eqb, List, [], ◌∷◌, map, length, Option, Some, None, refl, sym, ap, ◌∙◌}
 use Rattle.std.proofs.lemmas.List.{length-map}
+use Rattle.std.specs.List.{find, filter}
 use Rattle.std.specs.Option.{option_map}
-use Rattle.xdb_lists.proofs.PlaceLaws.{under-none, under-all, under-number}
+use Rattle.xdb_lists.proofs.PlaceLaws.{under-none, under-all}
 use Rattle.xdb_plain.specs.State.{Plain, OpenQuestion, found_question, without_question}
 use Rattle.xdb_steps.specs.Core.{Core}
 use Rattle.xdb_steps.specs.Keeps.{Agrees}
 use Rattle.xdb_steps.specs.Parts.Asks.{unanswered, IsNumbered}
 
-choice : (b : Bool) (q : OpenQuestion) (o : Option OpenQuestion) → cond b (Some (unanswered q)) (option_map unanswered o) ≡ option_map unanswered (cond b (Some q) o)
-choice true q o = refl
-choice false q o = refl
+-- ---- questions by what another list has
 
-found-unanswered : (ask : ℕ) (qs : List OpenQuestion) → found_question ask (map unanswered qs) ≡ option_map unanswered (found_question ask qs)
-found-unanswered ask [] = refl
-found-unanswered ask (q ∷ qs) = ap (λ o. cond (eqb q.ask ask) (Some (unanswered q)) o) (found-unanswered ask qs) ∙ choice (eqb q.ask ask) q (found_question ask qs)
+module _ {X : Type 0} (f : X → OpenQuestion) where
+  choice : (b : Bool) (x : X) (o : Option X) → cond b (Some (f x)) (option_map f o) ≡ option_map f (cond b (Some x) o)
+  choice true x o = refl
+  choice false x o = refl
 
-kept : (b : Bool) (q : OpenQuestion) (qs : List OpenQuestion) → cond b (unanswered q ∷ map unanswered qs) (map unanswered qs) ≡ map unanswered (cond b (q ∷ qs) qs)
-kept true q qs = refl
-kept false q qs = refl
+  pub found-mapped : (ask : ℕ) (xs : List X) → found_question ask (map f xs) ≡ option_map f (find (λ x. eqb (f x).ask ask) xs)
+  found-mapped ask [] = refl
+  found-mapped ask (x ∷ xs) =
+      ap (λ o. cond (eqb (f x).ask ask) (Some (f x)) o) (found-mapped ask xs) ∙ choice (eqb (f x).ask ask) x (find (λ y. eqb (f y).ask ask) xs)
 
-pub without-unanswered : (ask : ℕ) (qs : List OpenQuestion) → without_question ask (map unanswered qs) ≡ map unanswered (without_question ask qs)
-without-unanswered ask [] = refl
-without-unanswered ask (q ∷ qs) = ap (λ os. cond (not (eqb q.ask ask)) (unanswered q ∷ os) os) (without-unanswered ask qs) ∙ kept (not (eqb q.ask ask)) q (without_question ask qs)
+  kept : (b : Bool) (x : X) (xs : List X) → cond b (f x ∷ map f xs) (map f xs) ≡ map f (cond b (x ∷ xs) xs)
+  kept true x xs = refl
+  kept false x xs = refl
+
+  pub without-mapped : (ask : ℕ) (xs : List X) → without_question ask (map f xs) ≡ map f (filter (λ x. not (eqb (f x).ask ask)) xs)
+  without-mapped ask [] = refl
+  without-mapped ask (x ∷ xs) =
+      ap (λ os. cond (not (eqb (f x).ask ask)) (f x ∷ os) os) (without-mapped ask xs)
+      ∙ kept (not (eqb (f x).ask ask)) x (filter (λ y. not (eqb (f y).ask ask)) xs)
 
 -- a plain question that is the same but for its answer and place
 pub record IsTold (q : OpenQuestion) (found : Option OpenQuestion) : Type 0 where
@@ -40,7 +47,7 @@ some-of q (Some told) e = record { told = told; there = refl; same = cc }
 
 module _ (c : Core) (p : Plain) (a : Agrees c p) where
   pub plain-found : (ask : ℕ) → option_map unanswered (found_question ask p.questions) ≡ option_map unanswered (found_question ask c.asks)
-  plain-found ask = sym (found-unanswered ask p.questions) ∙ ap (found_question ask) (sym a.asks.same) ∙ found-unanswered ask c.asks
+  plain-found ask = sym (found-mapped unanswered ask p.questions) ∙ ap (found_question ask) (sym a.asks.same) ∙ found-mapped unanswered ask c.asks
 
   pub plain-none : (ask : ℕ) → found_question ask c.asks ≡ None → found_question ask p.questions ≡ None
   plain-none ask none = none-of (found_question ask p.questions) (plain-found ask ∙ ap (option_map unanswered) none)

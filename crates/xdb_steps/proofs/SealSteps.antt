@@ -1,8 +1,7 @@
 -- A seal.
-use Rattle.std.proofs.Common.{◌≡◌, ℕ, ◌+◌, Bool, true, false, cond, ◌||◌, List, [], ◌∷◌, ◌++◌, append-nil, refl, sym, ap, ◌∙◌, subst}
+use Rattle.std.proofs.Common.{◌≡◌, ℕ, ◌+◌, Bool, true, false, cond, ◌||◌, [], ◌∷◌, ◌++◌, append-nil, refl, sym, ap, ◌∙◌, subst}
 use Rattle.std.proofs.lemmas.Bool.{eq-eqb}
 use Rattle.std.specs.List.{list_any}
-use Rattle.xdb_key.specs.Groups.{Group}
 use Rattle.xdb_mem.specs.Numbered.{RisesWithin}
 use Rattle.xdb_mem.specs.Parts.{items}
 use Rattle.xdb_mem.specs.Queue.{Queue, group, groups, all_ops, sealed_once}

@@ -1,5 +1,5 @@
 -- A question that is settled.
-use Rattle.std.proofs.Common.{◌≡◌, ℕ, Bool, true, false, not, cond, eqb, List, [], ◌∷◌, map, Option, Some, None, refl, sym, ap, ◌∙◌, subst, IsTrue}
+use Rattle.std.proofs.Common.{◌≡◌, ℕ, true, false, not, cond, eqb, List, [], ◌∷◌, Option, Some, None, refl, sym, ap, ◌∙◌, subst, IsTrue}
 use Rattle.std.proofs.lemmas.List.Elements.{All-filter}
 use Rattle.std.specs.List.{list_any}
 use Rattle.std.specs.Option.{option_map}
@@ -12,21 +12,20 @@ use Rattle.xdb_plain.specs.declared.act.By.{By}
 use Rattle.xdb_plain.specs.declared.answer.Answer.{Answer}
 use Rattle.xdb_plain.specs.declared.answer.Answer.TheVariants.{Absent}
 use Rattle.xdb_plain.specs.declared.reply.Reply.TheVariants.{Answered, NoSuch, NotYet, Memory, Fault, Damaged}
-use Rattle.xdb_lists.proofs.PlaceLaws.{under-number}
 use Rattle.xdb_steps.specs.Core.{Core, ended_core}
 use Rattle.xdb_steps.specs.Keeps.{Agrees, Means}
 use Rattle.xdb_steps.specs.Notes.{plain_note}
 use Rattle.xdb_steps.specs.Parts.Asks.{AsksAgree, IsNumbered, unanswered}
 use Rattle.xdb_steps.specs.Parts.Unbuilt.{CursorsAgree}
 use Rattle.xdb_steps.specs.Step.{Step}
-use Rattle.xdb_steps.proofs.Found.{plain-none, plain-some, without-unanswered, IsTold}
+use Rattle.xdb_steps.proofs.Found.{plain-none, plain-some, without-mapped, IsTold}
 use Rattle.xdb_steps.proofs.Frame.{still}
 
 -- ---- what the end of a question leaves
 
 pub asks-left : (count ask : ℕ) (asks questions : List OpenQuestion) → AsksAgree count asks questions → AsksAgree count (without_question ask asks) (without_question ask questions)
 asks-left count ask asks questions a = record {
-  same = sym (without-unanswered ask asks) ∙ ap (without_question ask) a.same ∙ without-unanswered ask questions;
+  same = sym (without-mapped unanswered ask asks) ∙ ap (without_question ask) a.same ∙ without-mapped unanswered ask questions;
   numbered = All-filter (λ q. not (eqb q.ask ask)) (IsNumbered count) asks a.numbered;
 }
 

@@ -55,6 +55,41 @@ impl<F: FileRef> ViewCursor<F> {
         &self.view
     }
 
+    /// Whether the points are read.
+    pub fn is_read(&self) -> bool
+        ensures read { result ≡ self.now.read }
+        ensures walk { IsWalk F.bytes self.now }
+    {
+        self.read
+    }
+
+    /// The points, in order; none before they are read.
+    pub fn points(&self) -> &[Entry]
+        ensures points { result.now ≡ self.now.points }
+        ensures walk { IsWalk F.bytes self.now }
+    {
+        &self.points
+    }
+
+    /// Reads the points, where they aren't read yet. The place stays.
+    pub fn load<R: Reader<File = F>>(&mut self, dev: &mut R) -> Result<(), TableNo>
+        ensures counted { Counted R.faults R.misses R.frame dev.old dev.new (IsErrOf result TableNo.ReadFault) }
+        ensures told { R.told dev.new ≡ R.told dev.old }
+        // The points are read once.
+        ensures alone { self.old.read ≡ true → dev.new ≡ dev.old }
+        ensures view { self.new.view ≡ self.old.view }
+        ensures place { self.new.place ≡ self.old.place }
+        ensures read { OnOk result (self.new.read ≡ true) }
+        ensures left { OnErr result (self.new.read ≡ self.old.read) }
+        ensures same { OnErr result (self.new.points ≡ self.old.points) }
+        ensures kept { self.old.read ≡ true → self.new.points ≡ self.old.points }
+        // Over a file that tells its bytes, the points are what they read as, or the first defect is named.
+        ensures tells { IfSome (F.bytes self.old.view.table.file) (λ b. Tells self.old.view.table.backing (λ e. self.new.points) result (view_at self.old.view b)) }
+        ensures walk { IsWalk F.bytes self.new }
+    {
+        load(&self.view, &mut self.read, &mut self.points, dev)
+    }
+
     /// Goes to the next point and answers it. Behind the last point it stays.
     pub fn next<R: Reader<File = F>>(&mut self, dev: &mut R) -> Result<Option<Entry>, TableNo>
         ensures counted { Counted R.faults R.misses R.frame dev.old dev.new (IsErrOf result TableNo.ReadFault) }

@@ -276,6 +276,13 @@ fn has_span(
     Ok(is_span(&spans, lo, hi, seq))
 }
 
+/// Whether the points are read by a call for that alone, and are these two.
+fn loads(points: &mut ViewCursor<MemFile>, dev: &mut MemDevice) -> Result<bool, Fail> {
+    let before = points.is_read();
+    points.load(dev)?;
+    Ok(!before && points.is_read() && points.points().len() == 2)
+}
+
 /// Whether there are the points b and c, and the span from b to d.
 fn has_both(
     alloc: Global,
@@ -286,6 +293,7 @@ fn has_both(
     let seq = if synthetic == 0 { 5 } else { synthetic };
     Ok(
         points.view().synthetic() == synthetic
+            && loads(points, dev)?
             && walks(alloc, points, dev, synthetic)?
             && has_span(points, dev, b"b", b"d", seq)?,
     )

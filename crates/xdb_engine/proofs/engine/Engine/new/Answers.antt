@@ -1,7 +1,14 @@
 -- A new engine stands for the opening state.
+use Rattle.std.proofs.Common.{map}
+use Rattle.xdb_steps.specs.Core.{core}
+use Rattle.xdb_engine.specs.Questions.{plain_question}
+use Rattle.xdb_engine.specs.State.{core_of}
 use Rattle.xdb_engine.proofs.StateLaws.{new-stands}
 use Rattle.xdb_engine.proofs.engine.Engine.new.Goals as goal
 
 pub invariant_of-result : goal.invariant_of-result
 invariant_of-result g c =
-    new-stands c.args.first_seq c.args.first_file c.new.result c.new-3.result c.new-2.result.items c.args.book c.new.ensures c.new-3.ensures.seq c.new-3.ensures.file c.new-3.ensures.notes c.new-2.ensures.items c.requires.book c.requires.seq c.requires.seq_end
+    let s = c.new.ensures in
+    new-stands c.args.first_seq c.args.first_file (core_of c.new.result) c.new-2.result c.args.book
+    (λ i. core (s.mem i) (record { next = s.next i; file = s.file i; asked = s.asked i }) (map plain_question (s.asks i)))
+    c.new-2.ensures.seq c.new-2.ensures.file c.new-2.ensures.notes c.requires.book c.requires.seq c.requires.seq_end

@@ -1,0 +1,10 @@
+-- The laws, by topic.
+mod SortedLaws
+mod LayerLaws
+mod DecideLaws
+mod PairLaws
+mod SearchLaws
+mod LoadLaws
+mod SourceLaws
+mod MoveLaws
+mod ViewLaws

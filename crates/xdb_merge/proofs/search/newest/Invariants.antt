@@ -1,0 +1,9 @@
+-- The newest entry of the layers so far.
+use Rattle.std.proofs.Common.{take}
+use Rattle.std.specs.Option.{option_copied}
+use Rattle.xdb_merge.specs.Layers.{entries_of}
+use Rattle.xdb_merge.specs.Search.{IsNewest}
+use Rattle.xdb_merge.proofs.search.newest.Given as goal
+
+abbrev pub invariant-loop-layer : goal.invariant-loop-layer
+invariant-loop-layer l = IsNewest l.at l.key (entries_of (take l.layer-index l.layers)) (option_copied l.best)

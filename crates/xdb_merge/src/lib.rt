@@ -1,0 +1,16 @@
+//! A cursor over what memtables and tables have together.
+#![tactic(auto)]
+
+mod edge;
+pub mod laws;
+mod layer;
+mod merged;
+mod moves;
+mod search;
+mod source;
+
+pub use merged::Merged;
+pub use std::alloc::AllocError as Memory;
+
+#[cfg(test)]
+mod tests;
