@@ -9,7 +9,7 @@ use Rattle.xdb_key.specs.Entries.{Point, Tombstone, Reach, IsReach}
 use Rattle.xdb_key.specs.Order.{is_below, is_upto}
 use Rattle.xdb_key.specs.Reading.{◌>>=◌}
 use Rattle.xdb_rangedel.proofs.CoverLaws.{below-earlier_of, upto-later_of}
-use Rattle.xdb_rangedel.proofs.MemberLaws.{Has-map, Has-from_map, none-held}
+use Rattle.xdb_rangedel.proofs.MemberLaws.{Has-map, none-held}
 use Rattle.xdb_rangedel.proofs.RangeLaws.{empty-view, nothing-view, newest-view}
 use Rattle.xdb_rangedel.specs.Clip.{parts_in}
 use Rattle.xdb_rangedel.specs.Content.{Item, span, newest, entry_of, content_of}
@@ -22,7 +22,7 @@ use Rattle.xdb_table_r.specs.Contents.{content_in}
 use Rattle.xdb_table_r.specs.Points.{points_at}
 use Rattle.xdb_table_r.specs.Reaches.{reaches, IsExtentOf, LiesWithin, IsEmpty, Reaches, part_at, range_before, range_from}
 use Rattle.xdb_table_r.specs.Views.{Shown, keys_of, points_in, span_for, spans_in, seen_at}
-use Rattle.xdb_halves.specs.Beside.{left_of, right_of, has_keys, item_reach, IsExtent, HasNone, AreHalves, AreHalvesOf, rows_beside}
+use Rattle.xdb_halves.specs.Beside.{left_of, right_of, has_keys, item_reach, IsExtent, HasNone, AreHalvesOf, rows_beside}
 use Rattle.xdb_halves.specs.declared.sides.Halves.{Halves}
 
 -- ---- a span that covers what is shown leaves no keys
