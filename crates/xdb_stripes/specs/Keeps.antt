@@ -21,7 +21,8 @@ pub record Keeps (before after : List Item) (stripes : List ℕ) (floor : Floor)
   pub verdicts : (k : List ℕ) (limit : ℕ) → IsLimit before stripes limit
       → Agree (verdict before limit k) (verdict after limit k) (floor_holds floor k)
   -- no entry is new
-  pub entries : (key : List ℕ) (seq : ℕ) (value : Option (List ℕ)) → Has after (entry key seq value) → Has before (entry key seq value)
+  pub entries : (key : List ℕ) (seq : ℕ) (value : Option (List ℕ))
+      → Has after (entry key seq value) → Has before (entry key seq value)
   -- each span lies in one that was there, with its number
   pub spans : (t : Tombstone) → Has after (span t)
       → (s : Tombstone) × Has before (span s) × IsTrue (covers s.range t.range) × (s.seq ≡ t.seq)

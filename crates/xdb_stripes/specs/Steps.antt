@@ -1,4 +1,5 @@
--- How code finds what the rules ask: by the ends of stripes, and by a floor cut into disjoint pieces, each with the number 0.
+-- How code finds what the rules ask: by the ends of stripes, and by a floor cut into disjoint pieces, each with the
+-- number 0.
 use Rattle.std.specs.Prelude.{◌≡◌, ℕ, ◌<◌, ◌^◌, Bool, true, false, not, ◌&&◌, ◌||◌, ◌==◌, List, map, nat_lt, IsTrue}
 use Rattle.std.specs.List.{list_any}
 use Rattle.std.specs.Option.{is_some}

@@ -1,5 +1,5 @@
-//! Which entries stay. They stand in internal order, so what an older one has to know of the newer ones
-//! of its key is known of the one before it.
+//! Which entries stay. They stand in internal order, so what an older one has to know of the
+//! newer ones of its key is known of the one before it.
 ghost use Rattle.std.specs.Prelude.{◌≡◌, ℕ, ◌&&◌, ◌||◌, nat_lt, List, not, IfOk, IsTrue};
 ghost use Rattle.std.specs.List.{filter, list_any};
 ghost use Rattle.std.specs.List.Sorted.{IsNonDecreasing};
@@ -40,8 +40,9 @@ pub fn staying(
     Ok(kept)
 }
 
-/// Whether a newer entry of the key in the stripe shadows the entry, as told by the entry before it: that
-/// one does, or it has the same number and is shadowed itself. `end` is the end of the stripe.
+/// Whether a newer entry of the key in the stripe shadows the entry, as told by the entry before
+/// it: that one does, or it has the same number and is shadowed itself. `end` is the end of the
+/// stripe.
 fn is_shadowed(entry: &Entry, before: &Entry, before_is: bool, end: u64) -> bool
     ensures { result ≡ (same_key before.now.key entry.now.key && nat_lt before.now.seq end
         && (nat_lt entry.now.seq before.now.seq || before_is)) }
@@ -57,8 +58,8 @@ fn is_same_key(a: &Key, b: &Key) -> bool
     a.same(b)
 }
 
-/// Whether no span of the stripe, which has this end, takes the entry out, and it isn't a delete that
-/// hides nothing.
+/// Whether no span of the stripe, which has this end, takes the entry out, and it isn't a delete
+/// that hides nothing.
 fn stays(entry: &Entry, spans: &Fragments, stripes: &[u64], end: u64, floor: &FloorIndex) -> bool
     requires rising { IsNonDecreasing stripes.now }
     requires end { IsEnd stripes.now entry.now.seq end }

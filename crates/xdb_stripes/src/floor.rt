@@ -40,16 +40,16 @@ impl KeyRanges {
     }
 }
 
-/// Where older content may lie below what is written: at every key, or at the keys of some ranges. A
-/// delete stays there, since it may hide something.
+/// Where older content may lie below what is written: at every key, or at the keys of some
+/// ranges. A delete stays there, since it may hide something.
 #[derive(Debug, Drop)]
 pub enum Floor {
     All,
     Ranges(KeyRanges),
 }
 
-/// A floor cut into disjoint pieces, each with the number 0, so that a key or a range is found by one
-/// binary search.
+/// A floor cut into disjoint pieces, each with the number 0, so that a key or a range is found by
+/// one binary search.
 #[derive(Debug, Drop)]
 pub enum FloorIndex {
     Everywhere,

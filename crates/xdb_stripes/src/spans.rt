@@ -1,5 +1,5 @@
-//! Which fragments stay. Those with equal bounds stand beside each other, the greatest number first, so the
-//! one before a fragment tells whether another is left over the piece.
+//! Which fragments stay. Those with equal bounds stand beside each other, the greatest number
+//! first, so the one before a fragment tells whether another is left over the piece.
 ghost use Rattle.std.specs.Prelude.{◌≡◌, ◌<◌, ◌^◌, ◌&&◌, nat_lt, IfOk};
 ghost use Rattle.std.specs.List.{All, filter};
 ghost use Rattle.std.specs.List.Sorted.{IsNonDecreasing};
@@ -21,7 +21,8 @@ pub fn staying(
     floor: &FloorIndex,
 ) -> Result<Fragments, AllocError>
     requires { IsNonDecreasing stripes.now }
-    ensures { IfOk result (λ kept. kept ≡ filter (is_kept_span stripes.now floor.now spans.now) spans.now) }
+    ensures { IfOk result (λ kept. kept
+        ≡ filter (is_kept_span stripes.now floor.now spans.now) spans.now) }
 {
     let kept = picked(alloc, spans.list(), stripes, floor)?;
     Fragments::from_spans(alloc, &kept)

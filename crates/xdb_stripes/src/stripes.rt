@@ -3,8 +3,8 @@ ghost use Rattle.std.specs.List.Sorted.{IsNonDecreasing};
 ghost use Rattle.xdb_stripes.specs.Stripes.{stripe};
 ghost use Rattle.xdb_stripes.specs.Steps.{IsEnd};
 
-/// The end of a number's stripe: the least stripe above the number, or 2^64 - 1 where there is none.
-/// By one binary search.
+/// The end of a number's stripe: the least stripe above the number, or 2^64 - 1 where there is
+/// none. By one binary search.
 pub fn end_of_stripe(stripes: &[u64], number: u64) -> u64
     requires rising { IsNonDecreasing stripes.now }
     requires small { number < 2 ^ 56 }

@@ -17,8 +17,8 @@ type Row = (&'static str, &'static str, u64);
 /// Start and end.
 type Pair = (&'static str, &'static str);
 
-/// Entries, spans and stripes; whether older content may lie anywhere, and else in which ranges; and the
-/// entries and spans that are left.
+/// Entries, spans and stripes; whether older content may lie anywhere, and else in which ranges;
+/// and the entries and spans that are left.
 type Case = (
     &'static [Point],
     &'static [Row],
@@ -174,8 +174,8 @@ fn is_met(alloc: Global, case: &Case) -> Result<bool, Fail> {
     leaves(alloc, &given, case)
 }
 
-/// Three versions of a key. An older one in the stripe of a newer one goes, and a delete below the stripe where
-/// no floor range holds the key.
+/// Three versions of a key. An older one in the stripe of a newer one goes, and a delete below
+/// the stripe where no floor range holds the key.
 #[test]
 fn stripes_part_three_entries(rt: HostRuntime) -> Result<(), Fail> {
     let cases: [Case; 3] = [
@@ -213,8 +213,9 @@ fn stripes_part_three_entries(rt: HostRuntime) -> Result<(), Fail> {
     Ok(())
 }
 
-/// Each rule alone: older entries of a stripe; entries below a span of their stripe; older spans over a piece;
-/// deletes and spans below all stripes and off the floor, whose ranges stand in no order.
+/// Each rule alone: older entries of a stripe; entries below a span of their stripe; older spans
+/// over a piece; deletes and spans below all stripes and off the floor, whose ranges stand in no
+/// order.
 #[test]
 fn each_rule_alone(rt: HostRuntime) -> Result<(), Fail> {
     let cases: [Case; 4] = [
@@ -295,8 +296,9 @@ fn each_rule_alone(rt: HostRuntime) -> Result<(), Fail> {
 
 const MOST: u64 = (1 << 56) - 1;
 
-/// All rules with two stripes and a floor of two ranges; the greatest number, with stripes at both ends; an
-/// entry and a delete of one number below a newer entry, with a stripe that stands twice; nothing at all.
+/// All rules with two stripes and a floor of two ranges; the greatest number, with stripes at
+/// both ends; an entry and a delete of one number below a newer entry, with a stripe that stands
+/// twice; nothing at all.
 #[test]
 fn all_rules_together(rt: HostRuntime) -> Result<(), Fail> {
     let cases: [Case; 4] = [
@@ -462,8 +464,8 @@ fn left_of_many(alloc: Global, given: &Content) -> Result<(usize, usize, usize),
     Ok(counts(&made))
 }
 
-/// Of four entries of each key two versions stay, and of the deletes and the pieces of spans, which all lie
-/// below the stripes, those on the floor.
+/// Of four entries of each key two versions stay, and of the deletes and the pieces of spans,
+/// which all lie below the stripes, those on the floor.
 #[test]
 fn thousands_of_entries(rt: HostRuntime) -> Result<(), Fail> {
     let given = many(rt.alloc())?;

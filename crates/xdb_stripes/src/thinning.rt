@@ -12,17 +12,18 @@ use std::alloc::{AllocError, Global};
 use xdb_key::Entry;
 use xdb_rangedel::Fragments;
 
-/// Leaves out what no reader at a stripe or above all numbers can see, and deletes that hide nothing.
+/// Leaves out what no reader at a stripe or above all numbers can see, and deletes that hide
+/// nothing.
 ///
-/// Stripes are numbers that content is still looked at below; they cut all numbers into intervals. Of
-/// the entries of one key in one stripe the newest stays, unless a newer span of the stripe holds the
-/// key; of the spans over one piece in one stripe the newest stays; and below all stripes a delete stays
-/// only where the floor holds its key, and a span only where it meets the floor. As in LevelDB and
-/// Pebble, whose compactions drop what no snapshot sees. What was left out isn't asked again: each rule
-/// speaks of all that was given.
+/// Stripes are numbers that content is still looked at below; they cut all numbers into
+/// intervals. Of the entries of one key in one stripe the newest stays, unless a newer span of
+/// the stripe holds the key; of the spans over one piece in one stripe the newest stays; and
+/// below all stripes a delete stays only where the floor holds its key, and a span only where it
+/// meets the floor. As in LevelDB and Pebble, whose compactions drop what no snapshot sees. Each
+/// rule is asked of all that was given, also of what another takes out.
 ///
-/// Takes O(n log n) steps for n entries, spans and floor ranges; the stripes cost a logarithm for each.
-/// An error means that an allocation failed.
+/// Takes O(n log n) steps for n entries, spans and floor ranges; the stripes cost a logarithm for
+/// each. An error means that an allocation failed.
 pub fn thin(
     alloc: Global,
     entries: &[Entry],
