@@ -5,3 +5,4 @@ pub mod Steps
 pub mod Search
 pub mod Sources
 pub mod Moves
+pub mod Tables

@@ -1,24 +1,31 @@
-//! A law of the definitions, a function that does nothing.
-ghost use Rattle.std.specs.Prelude.{◌≡◌, ℕ, List, Some, IsOk, IfOk};
+//! Laws of the definitions, each a function that does nothing.
+ghost use Rattle.std.specs.Prelude.{◌≡◌, ◌++◌, ℕ, List};
+ghost use Rattle.std.specs.List.{AllByRecursion};
+ghost use Rattle.xdb_mem.specs.Parts.{Parts};
+ghost use Rattle.xdb_meta.specs.Table.{Table};
 ghost use Rattle.xdb_rangedel.specs.Content.{content_of};
-ghost use Rattle.xdb_rangedel.specs.View.{view};
-ghost use Rattle.xdb_table_r.specs.Contents.{content_in};
 ghost use Rattle.xdb_table_r.specs.Cursors.{Walk};
-ghost use Rattle.xdb_table_r.specs.Points.{points_at};
-ghost use Rattle.xdb_table_r.specs.Views.{keys_of};
-ghost use Rattle.xdb_merge.specs.Merge.{layer_of};
-ghost use Rattle.xdb_merge.specs.Steps.{IsLoaded};
+ghost use Rattle.xdb_table_r.specs.Views.{Shown};
+ghost use Rattle.xdb_table_r.specs.declared.error.TableNo.{TableNo};
+ghost use Rattle.xdb_merge.specs.Layers.{content_of_layers};
+ghost use Rattle.xdb_merge.specs.Merge.{layers};
+ghost use Rattle.xdb_merge.specs.Steps.{IsLoaded, NamesDefect, views};
+ghost use Rattle.xdb_merge.specs.Tables.{AreViewsOf, AreTold, content_of_tables, NamesDamage};
 
 use xdb_device::FileRef;
 
-/// What is read of a view, over a file that tells its bytes, is the view of its table's content.
-pub fn layers_are_views<F: FileRef>()
-    ensures read { (w : Walk F) (told : List ℕ) → IsLoaded F.bytes w
-        → F.bytes w.view.table.file ≡ Some told
-        → IsOk (points_at w.view.table.index told) }
-    ensures view { (w : Walk F) (told : List ℕ) → IsLoaded F.bytes w
-        → F.bytes w.view.table.file ≡ Some told
-        → IfOk (points_at w.view.table.index told) (λ rows.
-        content_of w.points (layer_of w).spans
-        ≡ view (content_in rows w.view.table.spans) (keys_of w.view) w.view.synthetic) }
+/// What a merged cursor goes over, once the views of tables are read whose files tell their bytes: the content of
+/// the memtables and of the tables.
+pub fn content_is_of_tables<F: FileRef>()
+    ensures { (mem : Parts) (tables : List (Table × F)) (walks : List (Walk F))
+        → AreViewsOf F.bytes tables (views walks) → AllByRecursion (IsLoaded F.bytes) walks
+        → AreTold F.bytes tables
+        → content_of_layers (layers mem walks)
+        ≡ content_of mem.entries mem.spans ++ content_of_tables F.bytes tables }
+{}
+
+/// A defect that a merged cursor names is one of a table.
+pub fn damage_is_of_tables<F: FileRef>()
+    ensures { (tables : List (Table × F)) (vs : List (Shown F)) (no : TableNo)
+        → AreViewsOf F.bytes tables vs → NamesDefect F.bytes vs no → NamesDamage F.bytes tables no }
 {}

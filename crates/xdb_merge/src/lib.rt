@@ -8,9 +8,11 @@ mod merged;
 mod moves;
 mod search;
 mod source;
+mod tables;
 
 pub use merged::Merged;
 pub use std::alloc::AllocError as Memory;
+pub use tables::open_views;
 
 #[cfg(test)]
 mod tests;

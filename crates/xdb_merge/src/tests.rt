@@ -1,15 +1,16 @@
 // What no clause says: that calls answer anything but want of memory where memory is ample, and how tables and memtables
 // stand over one another in examples.
-ghost use Rattle.std.specs.Prelude.{◌<◌, ◌^◌, IfOk};
+ghost use Rattle.std.specs.Prelude.{◌<◌, ◌≤◌, ◌^◌, IfOk};
 ghost use Rattle.xdb_key.specs.Entries.{IsPoint};
 
-use crate::Merged;
+use crate::{Merged, open_views};
 use std::alloc::Global;
 use std::test::Fail;
 use xdb_batch::Batch;
 use xdb_device::{Device, MemDevice, MemFile};
-use xdb_key::{Bound, Entry, Key, KeyRange, Span, Val};
+use xdb_key::{Bound, Entry, Extent, Key, KeyRange, Span, Val};
 use xdb_mem::{MemParts, MemQueue};
+use xdb_meta::TableMeta;
 use xdb_plain::Place;
 use xdb_table_r::{TableFile, TableNo, View};
 use xdb_table_w::TableWriter;
@@ -631,6 +632,61 @@ fn a_damaged_block_among_sound_tables(rt: HostRuntime) -> Result<(), Fail> {
     let mut dev = MemDevice::new(alloc, Vec::new(alloc));
     let named = names_the_damaged(alloc, &mut dev)?;
     assert!(rt; named);
+    Ok(())
+}
+
+/// A table that is seen from b on, with the number 7.
+fn meta(alloc: Global, num: u64) -> Result<TableMeta, Fail>
+    requires number { 1 ≤ num }
+    requires small { num < 2 ^ 56 }
+{
+    let extent = Extent::new(range(alloc, b'b', b'z')?, 7, 7);
+    Ok(TableMeta::physical(num, extent, 7, 200))
+}
+
+fn table_file(alloc: Global, dev: &mut MemDevice) -> Result<MemFile, Fail> {
+    let bytes = file(alloc, &OVER[2])?;
+    Ok(dev.create(1, &bytes)?)
+}
+
+fn one_table(alloc: Global, dev: &mut MemDevice) -> Result<Vec<(TableMeta, MemFile)>, Fail> {
+    let mut tables = Vec::new(alloc);
+    let file = table_file(alloc, dev)?;
+    tables.push((meta(alloc, 1)?, file))?;
+    Ok(tables)
+}
+
+fn over_tables(
+    alloc: Global,
+    dev: &mut MemDevice,
+    tables: &[(TableMeta, MemFile)],
+) -> Result<Merged<MemFile>, Fail> {
+    let views = open_views(alloc, tables, dev)?;
+    let mem = MemParts::empty(alloc)?;
+    let bounds = range(alloc, 1, 255)?;
+    Ok(Merged::new(mem, views, bounds, 100)?)
+}
+
+fn table_is_walked(
+    alloc: Global,
+    dev: &mut MemDevice,
+    tables: &[(TableMeta, MemFile)],
+) -> Result<usize, Fail> {
+    let calls = [
+        (Call::Next, (b'b', 7, b'2')),
+        (Call::Lt(b'z'), (b'e', 7, b'5')),
+    ];
+    let mut pairs = over_tables(alloc, dev, tables)?;
+    right_calls(alloc, &mut pairs, dev, &calls)
+}
+
+#[test]
+fn a_table_by_what_is_known_of_it(rt: HostRuntime) -> Result<(), Fail> {
+    let alloc = rt.alloc();
+    let mut dev = MemDevice::new(alloc, Vec::new(alloc));
+    let tables = one_table(alloc, &mut dev)?;
+    let right = table_is_walked(alloc, &mut dev, &tables)?;
+    assert!(rt; right == 2);
     Ok(())
 }
 
