@@ -27,7 +27,7 @@ holds-covered r range k over at_k =
     let inner = and_parts (is_upto range.lo k) (is_below k range.hi) at_k in
     both-true (is_upto r.lo k) (is_below k r.hi) (upto_trans r.lo range.lo k outer.0 inner.0) (below_upto k range.hi r.hi inner.1 outer.1)
 
-found-inside : (range : Bounds) (m : PlainMap) (k : List ℕ) → map.find key_cmp k (pairs_in range m) ≡ cond (holds range k) (map.get m k) None
+pub found-inside : (range : Bounds) (m : PlainMap) (k : List ℕ) → map.find key_cmp k (pairs_in range m) ≡ cond (holds range k) (map.get m k) None
 found-inside range m k =
     find-where_key key_cmp (holds range) k (λ x e. ap (holds range) (sym (key_exact k x e))) (map.entries m)
     ∙ ap (λ o. cond (holds range k) o None) (sym (map.get-entries m k))
@@ -41,7 +41,7 @@ same-pairs r range m n over alike = same_entries key_cmp key_total key_exact (pa
       | inr e ↦ found-inside range m k ∙ ap (λ t. cond t (map.get m k) None) e ∙ ap (λ t. cond t (map.get n k) None) (sym e) ∙ sym (found-inside range n k)
     ])
 
-covers-itself : (r : Bounds) → covers r r ≡ true
+pub covers-itself : (r : Bounds) → covers r r ≡ true
 covers-itself r = both-true (is_upto r.lo r.lo) (is_upto r.hi r.hi) (upto-itself r.lo) (upto-itself r.hi)
 
 pub answered-alike : (r : Bounds) (m n : PlainMap) (place : Place) (question : Question) → AreAlikeIn r m n → is_inside r question ≡ true → answered m r place question ≡ answered n r place question
@@ -50,7 +50,7 @@ answered-alike r m n place (Scan range most at) alike within = ap (λ ps. landin
 answered-alike r m n place (RScan range most at) alike within = ap (λ ps. landing (Found (take most (reverse ps))) Before) (same-pairs r range m n within alike)
 answered-alike r m n place (Move cursor step) alike within = ap (λ ps. moved ps place step) (same-pairs r r m n (covers-itself r) alike)
 
-holds-itself : (key : List ℕ) → holds (key_hull key) key ≡ true
+pub holds-itself : (key : List ℕ) → holds (key_hull key) key ≡ true
 holds-itself key = both-true (is_upto key key) (is_below key (successor key)) (upto-itself key) (key-below-successor key)
 
 -- what a question speaks of lies inside its bounds

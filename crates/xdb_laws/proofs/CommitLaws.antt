@@ -32,7 +32,7 @@ same_key-turned a b = elim (cases_Bool (same_key a b)) [
 ]
 
 -- what one item says
-verdict-one : (i : Item) (limit : ℕ) (k : List ℕ) → verdict (i ∷ []) limit k ≡ cond (is_seen limit k i) (said i) nothing
+pub verdict-one : (i : Item) (limit : ℕ) (k : List ℕ) → verdict (i ∷ []) limit k ≡ cond (is_seen limit k i) (said i) nothing
 verdict-one i limit k = elim (cases_Bool (is_seen limit k i)) [
   | inl e ↦ ap (λ b. said_by (newer (cond b (Some (mark i)) None) None)) e ∙ ap (λ b. cond b (said i) nothing) (sym e)
   | inr e ↦ ap (λ b. said_by (newer (cond b (Some (mark i)) None) None)) e ∙ ap (λ b. cond b (said i) nothing) (sym e)
@@ -42,7 +42,7 @@ and-true : (b t : Bool) → t ≡ true → (b && t) ≡ b
 and-true true t e = e
 and-true false t e = refl
 
-seen-next : (n : ℕ) (k : List ℕ) (i : Item) → seq_of i ≡ n → is_seen (n + 1) k i ≡ here k i
+pub seen-next : (n : ℕ) (k : List ℕ) (i : Item) → seq_of i ≡ n → is_seen (n + 1) k i ≡ here k i
 seen-next n k i e = and-true (here k i) (ltb (seq_of i) (n + 1)) (lt-ltb (seq_of i) (n + 1) (omega arith))
 
 -- an item that speaks of the key over what was said before
@@ -60,13 +60,13 @@ cond-not true before = refl
 cond-not false before = refl
 
 -- what the map has after an operation
-get-acted : (m : PlainMap) (n : ℕ) (op : Op) (k : List ℕ) → map.get (acted m op) k ≡ cond (here k (item_at n op)) (value_of (said (item_at n op))) (map.get m k)
+pub get-acted : (m : PlainMap) (n : ℕ) (op : Op) (k : List ℕ) → map.get (acted m op) k ≡ cond (here k (item_at n op)) (value_of (said (item_at n op))) (map.get m k)
 get-acted m n (Set key value) k = map.get-insert key_total m key value k ∙ ap (λ t. cond t (Some value) (map.get m k)) (same_key-turned k key)
 get-acted m n (Del key) k = map.get-remove key_total m key k ∙ ap (λ t. cond t None (map.get m k)) (same_key-turned k key)
 get-acted m n (DelSpan range) k =
     map.get-retain_keys m (λ x. not (holds range x)) k (λ x e. ap (λ y. not (holds range y)) (sym (key_exact k x e))) ∙ cond-not (holds range k) (map.get m k)
 
-seq-item : (n : ℕ) (op : Op) → seq_of (item_at n op) ≡ n
+pub seq-item : (n : ℕ) (op : Op) → seq_of (item_at n op) ≡ n
 seq-item n (Set key value) = refl
 seq-item n (Del key) = refl
 seq-item n (DelSpan range) = refl

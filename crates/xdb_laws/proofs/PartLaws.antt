@@ -48,13 +48,13 @@ drawn-below : (c : List Item) (limit : ℕ) → IsDrawn c (filter (λ i. ltb (se
 drawn-below c limit = λ k i h at_i. (i, filter-has c limit i h, at_i, refl, refl)
 
 -- what parts are drawn from
-drawn-parts : (r : Bounds) (limit : ℕ) (ops : List (ℕ × Op)) → IsDrawn (items ops) (in_pieces (restricted r (items_below limit ops)))
+pub drawn-parts : (r : Bounds) (limit : ℕ) (ops : List (ℕ × Op)) → IsDrawn (items ops) (in_pieces (restricted r (items_below limit ops)))
 drawn-parts r limit ops =
     drawn_trans (items ops) (restricted r (items_below limit ops)) (in_pieces (restricted r (items_below limit ops)))
     (drawn_trans (items ops) (items_below limit ops) (restricted r (items_below limit ops)) (drawn-below (items ops) limit) (drawn-restricted r (items_below limit ops)))
     (drawn-in_pieces (restricted r (items_below limit ops)))
 
-same-drawn : (old new parts : List Item) → SameMembers parts new → IsDrawn old new → IsDrawn old parts
+pub same-drawn : (old new parts : List Item) → SameMembers parts new → IsDrawn old new → IsDrawn old parts
 same-drawn old new parts same drawn = λ k i h at_i. drawn k i ((same i).0 h) at_i
 
 pub parts-clear : (r : Bounds) (limit : ℕ) (ops : List (ℕ × Op)) (parts : List Item) → SameMembers parts (in_pieces (restricted r (items_below limit ops))) → IsClear (items ops) → IsClear parts

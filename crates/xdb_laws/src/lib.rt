@@ -2,53 +2,17 @@
 //! function that does nothing.
 #![tactic(auto)]
 
-ghost use Rattle.std.specs.Prelude.{◌≡◌, ℕ, ◌+◌, ◌∷◌, [], ◌++◌, List, length, IsTrue, Some, None};
-ghost use Rattle.std.specs.FinMap as map;
-ghost use Rattle.xdb_key.specs.Bounds.{Bounds, holds};
-ghost use Rattle.xdb_key.specs.declared.op.Op.{Op};
-ghost use Rattle.xdb_plain.specs.Answers.{answer_now};
-ghost use Rattle.xdb_plain.specs.PlainMap.{PlainMap, acted_all};
-ghost use Rattle.xdb_plain.specs.State.{Plain};
-ghost use Rattle.xdb_plain.specs.declared.question.Place.{Place};
-ghost use Rattle.xdb_plain.specs.declared.question.Place.TheVariants.{Before};
-ghost use Rattle.xdb_plain.specs.declared.question.Question.{Question};
-ghost use Rattle.xdb_rangedel.specs.Content.{Item, in_pieces, IsImage, IsClear};
-ghost use Rattle.xdb_rangedel.specs.Layers.{IsAllBelow};
-ghost use Rattle.xdb_rangedel.specs.Members.{SameMembers};
-ghost use Rattle.xdb_rangedel.specs.View.{restricted};
-ghost use Rattle.xdb_mem.specs.Numbered.{numbered};
-ghost use Rattle.xdb_mem.specs.Parts.{items, items_below};
-ghost use Rattle.xdb_laws.specs.Image.{image, inside, AreAlikeIn};
-ghost use Rattle.xdb_laws.specs.Answered.{answered, is_inside, question_bounds, is_of_now};
-
-/// The image of a content has each key whose verdict is a value, with that value.
-pub fn image_is_what_is_said()
-    ensures image { (c : List Item) (limit : ℕ) → IsImage c limit (image c limit) }
-    ensures inside { (r : Bounds) (m : PlainMap) → AreAlikeIn r (inside r m) m }
-{}
-
-/// An answer sees no more of a map than what it has inside the bounds.
-pub fn answers_look_inside()
-    ensures alike { (r : Bounds) (m n : PlainMap) (place : Place) (question : Question) → AreAlikeIn r m n
-        → IsTrue (is_inside r question) → answered m r place question ≡ answered n r place question }
-    ensures bounds { (r : Bounds) (question : Question) → question_bounds question ≡ Some r → IsTrue (is_inside r question) }
-    ensures now { (p : Plain) (r : Bounds) (question : Question) → IsTrue (is_of_now question)
-        → answer_now p question ≡ answered p.map r Before question }
-{}
-
-/// A commit: operations numbered from the next number on join a content that lies below it, and act on its image.
-pub fn commits_act()
-    ensures image { (c : List Item) (next : ℕ) (m : PlainMap) (ops : List Op) → IsImage c next m → IsAllBelow next c
-        → IsImage (c ++ items (numbered next ops)) (next + length ops) (acted_all m ops) }
-    ensures below { (c : List Item) (next : ℕ) (m : PlainMap) (ops : List Op) → IsImage c next m → IsAllBelow next c
-        → IsAllBelow (next + length ops) (c ++ items (numbered next ops)) }
-{}
-
-/// An ask: what the memtables have in a range below a number is clear, and its image is the map there.
-pub fn parts_are_the_map()
-    ensures clear { (r : Bounds) (limit : ℕ) (ops : List (ℕ × Op)) (parts : List Item)
-        → SameMembers parts (in_pieces (restricted r (items_below limit ops))) → IsClear (items ops) → IsClear parts }
-    ensures alike { (r : Bounds) (limit : ℕ) (ops : List (ℕ × Op)) (parts : List Item) (m : PlainMap)
-        → SameMembers parts (in_pieces (restricted r (items_below limit ops))) → IsClear (items ops)
-        → IsImage (items ops) limit m → AreAlikeIn r (image parts limit) m }
-{}
+pub mod asks;
+pub mod commits;
+pub mod compactions;
+pub mod excises;
+pub mod flushes;
+pub mod images;
+pub mod instances;
+pub mod load_instances;
+pub mod loads;
+pub mod order;
+pub mod questions;
+pub mod rewrites;
+pub mod snapshots;
+pub mod versions;
