@@ -1,5 +1,5 @@
 -- The extent of a table of operations: its bounds are theirs, and its numbers are 0.
-use Rattle.std.proofs.Common.{◌≡◌, ℕ, ◌+◌, ◌^◌, ◌<◌, ◌≤◌, true, not, ltb, List, [], ◌∷◌, ◌++◌, length, map, Option, Some, None, IsTrue, inl, inr, refl, sym, ap, ◌∙◌, subst, arith}
+use Rattle.std.proofs.Common.{◌≡◌, ℕ, ◌+◌, ◌≤◌, true, not, ltb, List, [], ◌∷◌, ◌++◌, length, map, Option, Some, None, IsTrue, inl, inr, refl, sym, ap, ◌∙◌, subst, arith}
 use Rattle.std.proofs.lemmas.Bool.{and_parts, false≢true, lt-ltb, and_from, false_from_ne_true}
 use Rattle.std.proofs.lemmas.List.{length-map}
 use Rattle.std.specs.List.{All, AllByRecursion}
@@ -15,7 +15,7 @@ use Rattle.xdb_key.specs.declared.op.Op.{Op}
 use Rattle.xdb_key.specs.declared.op.Op.TheVariants.{Set, Del, DelSpan}
 use Rattle.xdb_block.specs.Rows.{Row}
 use Rattle.xdb_rangedel.proofs.CoverLaws.{cover_of_unordered, cover_of-pieces, cover_of-None, cover_of-Some}
-use Rattle.xdb_rangedel.proofs.FragmentLaws.{All-at_Has, All-from_Has}
+use Rattle.xdb_rangedel.proofs.FragmentLaws.{All-at_Has}
 use Rattle.xdb_rangedel.proofs.MemberLaws.{Has-append_cases, Has-map, Has-from_map, Has-from_filter_map}
 use Rattle.xdb_rangedel.proofs.PieceLaws.{pieces-tell}
 use Rattle.xdb_rangedel.specs.Cover.{cover_of}
@@ -240,16 +240,6 @@ pieced ops made seen fs made_is seen_is ordered same = record {
   ordered = subst (All (λ t. IsTrue (is_ordered t))) made_is ordered;
   same = subst (λ ts. SameMembers fs (pieces ts)) (seen_is ∙ made_is) same;
 }
-
-pub small_numbers : (ops : List Op) (fs : List Tombstone) → Pieced ops fs → All (λ t. t.seq < 2 ^ 56) fs
-small_numbers ops fs p = All-from_Has (λ t. t.seq < 2 ^ 56) fs (λ t has. small t has)
-  where
-    small : (t : Tombstone) → Has fs t → t.seq < 2 ^ 56
-    small t has =
-        let s = (cut fs (spans_of ops) p.ordered p.same).source t has in
-        let op = Has-from_filter_map span_of ops s.0 s.1 in
-        let none = (span_hull op.0 s.0 op.2).1 in
-        omega (arith, none, s.3)
 
 pub is_written : (ops : List Op) (fs : List Tombstone) (first second : Content) → first ≡ content (map point_row (points_of ops)) [] → second ≡ content first.points (map span_row fs) → second ≡ rows_of ops fs
 is_written ops fs first second first_is second_is = second_is ∙ ap (λ c. content c.points (map span_row fs)) first_is

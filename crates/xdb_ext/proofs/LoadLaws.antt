@@ -1,25 +1,22 @@
 -- Files for one table after another.
 use Rattle.std.proofs.Common.{◌≡◌, ℕ, ◌+◌, ◌^◌, ◌<◌, ◌≤◌, List, [], ◌∷◌, ◌++◌, length, get_or, take, Option, Some, None, IfSome, Ok, Err, nat_eq, refl, sym, ap, ◌∙◌, subst, arith}
-use Rattle.std.proofs.lemmas.List.{take_more, take_all, take-map, get_or-map, length-map, length-append, map-append}
+use Rattle.std.proofs.lemmas.List.{take_more, take_all, take-map, get_or-map, length-map, map-append}
 use Rattle.std.specs.List.{IsDistinct}
-use Rattle.xdb_device.specs.Told.{Held, Told, Created}
+use Rattle.xdb_device.specs.Told.{Told, Created}
 use Rattle.xdb_device.specs.Work.{cause_of}
 use Rattle.xdb_device.specs.declared.fault.DevNo.{DevNo}
 use Rattle.xdb_device.specs.declared.fault.WorkCause.TheVariants as causes
 use Rattle.xdb_rangedel.specs.Members.{Has}
 use Rattle.xdb_key.specs.Entries.{Reach}
 use Rattle.xdb_key.specs.declared.op.Op.{Op}
-use Rattle.xdb_ext.proofs.WorkLaws.{At, apart, tried_none, tried_more, tried_failed, tried_next, tried_where, first_numbers, held_more}
-use Rattle.xdb_ext.specs.Loads.{FitsTable, FitsLoad, Written, nums_of, numbered_files}
+use Rattle.xdb_work.proofs.WorkLaws.{apart, tried_none, tried_more, tried_failed, tried_next, tried_where, first_numbers, held_none, held_more}
+use Rattle.xdb_ext.specs.Loads.{FitsTable, FitsLoad, Written, numbered_files}
 use Rattle.xdb_ext.specs.Operations.{IsFileOf}
 use Rattle.xdb_ext.specs.TableBounds.{IsExtentOf}
-use Rattle.xdb_ext.specs.Work.{AreFirst, Tried, AreHeld}
-
-pub one_longer : {A : Type 0} (xs ys : List A) (x : A) (n : ℕ) → ys ≡ xs ++ x ∷ [] → length xs ≡ n → length ys ≡ n + 1
-one_longer xs ys x n is count = omega (arith, ap length is, length-append xs (x ∷ []), count)
+use Rattle.xdb_work.specs.Work.{IsNext, nums_of, AreFirst, Tried, AreHeld}
 
 -- the place of a table's number
-pub table_at : (tables : List (ℕ × List Op)) (i : ℕ) (t : ℕ × List Op) → i < length tables → t ≡ get_or tables i t → At (nums_of tables) i t.0
+pub table_at : (tables : List (ℕ × List Op)) (i : ℕ) (t : ℕ × List Op) → i < length tables → t ≡ get_or tables i t → IsNext (nums_of tables) i t.0
 table_at tables i t inside is = record {
   inside = omega (arith, length-map tables (λ (x : ℕ × List Op). x.0));
   is = ap (λ (x : ℕ × List Op). x.0) is ∙ sym (get_or-map (λ (x : ℕ × List Op). x.0) tables i t t.0 inside);
@@ -50,16 +47,12 @@ module _ {F : Type 0} (size : F → ℕ) (bytes : F → Option (List ℕ)) where
 
   -- ---- a file is written for each table
 
-  held_none : (holds : Option Held) → AreHeld size bytes holds []
-  held_none None = tt
-  held_none (Some held) = tt
-
   written_none : (tables : List (ℕ × List Op)) (t : Told) → Written size bytes tables 0 [] [] t t
   written_none tables t = record {
     fits = tt;
     numbers = refl;
     told = tried_none (nums_of tables) t;
-    held = λ _. held_none t.holds;
+    held = λ _. held_none size bytes t.holds;
   }
 
   pub written_first : (tables : List (ℕ × List Op)) (tried : List ℕ) (files : List (ℕ × Reach × F)) (t : Told) → tried ≡ [] → files ≡ [] → Written size bytes tables 0 tried files t t

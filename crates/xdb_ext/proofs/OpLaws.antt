@@ -1,9 +1,9 @@
 -- Operations as points and range tombstones: how they go on, and that the points stand in the order of a table.
-use Rattle.std.proofs.Common.{◌≡◌, ℕ, zero, suc, ◌+◌, ◌^◌, ◌<◌, Bool, true, false, cond, List, [], ◌∷◌, ◌++◌, length, get_or, take, drop, map, Option, Some, None, is_none, inl, inr, refl, sym, ap, ◌∙◌, subst, arith, take-append-drop}
+use Rattle.std.proofs.Common.{◌≡◌, ℕ, zero, suc, ◌+◌, ◌<◌, Bool, true, false, cond, List, [], ◌∷◌, ◌++◌, length, get_or, take, map, Option, Some, None, is_none, inl, inr, refl, sym, ap, ◌∙◌, subst, arith}
 use Rattle.std.proofs.lemmas.Bool.{and_parts, false≢true}
-use Rattle.std.proofs.lemmas.List.{take_more, drop_more, map-append}
+use Rattle.std.proofs.lemmas.List.{take_more, map-append}
 use Rattle.std.proofs.lemmas.List.Elements.{filter_map-append}
-use Rattle.std.specs.List.{All, cons_option, filter_map}
+use Rattle.std.specs.List.{cons_option, filter_map}
 use Rattle.std.specs.Option.{option_map, option_to_list}
 use Rattle.std.specs.Ordering.{nat_cmp, is_lt, ordering_then}
 use Rattle.std.proofs.lemmas.Option.{same_Some}
@@ -16,10 +16,8 @@ use Rattle.xdb_key.specs.declared.op.Op.TheVariants.{Set, Del, DelSpan}
 use Rattle.xdb_block.proofs.SeekLaws.{lt-tells}
 use Rattle.xdb_block.specs.Rows.{Row, trailer_part}
 use Rattle.xdb_rangedel.specs.Members.{Has}
-use Rattle.xdb_rangedel.specs.Pieces.{AreFragments}
-use Rattle.xdb_table_w.proofs.FragmentRows.{in_order as fragments_in_order}
 use Rattle.xdb_table_w.proofs.KeyRows.{point_user}
-use Rattle.xdb_table_w.specs.Content.{Content, content, point_row, span_row, last_of, goes_behind, lies_behind}
+use Rattle.xdb_table_w.specs.Content.{Content, content, point_row, last_of, goes_behind}
 use Rattle.xdb_table_w.specs.Extents.{user}
 use Rattle.xdb_ext.specs.Operations.{point_of, span_of, points_of, spans_of}
 
@@ -113,17 +111,3 @@ written_more ops i op old new inside e was made =
     made
     ∙ ap (λ c. content (c.points ++ map point_row (option_to_list (point_of op))) c.spans) was
     ∙ ap (λ rows. content rows []) (sym (ap (map point_row) (points_more ops i op inside e) ∙ map-append point_row (points_of (take i ops)) (option_to_list (point_of op))))
-
--- ---- fragments are written one after the other
-
-pub fragment_behind : (fs : List Tombstone) (i : ℕ) (t : Tombstone) → i < length fs → t ≡ get_or fs i t → AreFragments fs → All (λ s. s.seq < 2 ^ 56) fs → lies_behind (last_of None (map span_row (take i fs))) (span_row t) ≡ true
-fragment_behind fs i t inside e h small =
-    let split : fs ≡ take i fs ++ t ∷ drop (i + 1) fs = sym (take-append-drop i fs) ∙ ap (λ r. take i fs ++ r) (drop_more fs i t inside ∙ ap (λ s. s ∷ drop (i + 1) fs) (sym e)) in
-    fragments_in_order (take i fs) t (drop (i + 1) fs) (subst AreFragments split h) (subst (All (λ s. s.seq < 2 ^ 56)) split small)
-
-pub fragment_written : (fs : List Tombstone) (i : ℕ) (t : Tombstone) (points : List Row) (old new : Content) → i < length fs → t ≡ get_or fs i t → old ≡ content points (map span_row (take i fs)) → new ≡ content old.points (old.spans ++ span_row t ∷ [])
-    → new ≡ content points (map span_row (take (i + 1) fs))
-fragment_written fs i t points old new inside e was made =
-    made
-    ∙ ap (λ c. content c.points (c.spans ++ span_row t ∷ [])) was
-    ∙ ap (content points) (sym (ap (map span_row) (take_more fs i t inside ∙ ap (λ s. take i fs ++ s ∷ []) (sym e)) ∙ map-append span_row (take i fs) (t ∷ [])))

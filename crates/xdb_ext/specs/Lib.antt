@@ -1,5 +1,4 @@
 pub mod Operations
 pub mod TableBounds
 pub mod Refusing
-pub mod Work
 pub mod Loads

@@ -7,14 +7,11 @@ use Rattle.xdb_key.specs.Ops.{is_table}
 use Rattle.xdb_key.specs.declared.op.Op.{Op}
 use Rattle.xdb_ext.specs.Operations.{IsFileOf}
 use Rattle.xdb_ext.specs.TableBounds.{IsExtentOf}
-use Rattle.xdb_ext.specs.Work.{Tried, AreHeld}
+use Rattle.xdb_work.specs.Work.{nums_of, Tried, AreHeld}
 
 -- each table has a number that is reserved for it, and operations that make one
 abbrev pub AreTables : List (ℕ × List Op) → Type 0
 AreTables tables = All (λ t. IsTrue (is_table t.1)) tables
-
-abbrev pub nums_of : {A : Type 0} → List (ℕ × A) → List ℕ
-nums_of xs = map (λ x. x.0) xs
 
 -- the files with their numbers, without their extents
 abbrev pub numbered_files : {F : Type 0} → List (ℕ × Reach × F) → List (ℕ × F)

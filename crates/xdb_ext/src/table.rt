@@ -4,7 +4,7 @@ ghost use Rattle.std.specs.Option.{option_to_list};
 ghost use Rattle.xdb_key.specs.Entries.{Point};
 ghost use Rattle.xdb_key.specs.Ops.{is_table};
 ghost use Rattle.xdb_rangedel.specs.Pieces.{is_ordered};
-ghost use Rattle.xdb_table_w.specs.Content.{content, point_row, span_row, last_of, goes_behind};
+ghost use Rattle.xdb_table_w.specs.Content.{content, point_row, last_of, goes_behind};
 ghost use Rattle.xdb_ext.specs.Operations.{point_of, points_of, span_of, spans_of, IsFileOf};
 ghost use Rattle.xdb_ext.specs.Refusing.{refusal_of};
 ghost use Rattle.xdb_ext.specs.TableBounds.{IsExtentOf};
@@ -14,6 +14,7 @@ use std::alloc::{AllocError, Global};
 use xdb_key::{Entry, Extent, Op, Span, disorder};
 use xdb_rangedel::Fragments;
 use xdb_table_w::{TableWriter, Written};
+use xdb_work::add_spans;
 
 /// The number of all that an external table holds. A load gives it a number of its own.
 const NUMBER: u64 = 0;
@@ -128,16 +129,4 @@ fn entry(op: &Op) -> Result<Option<Entry>, AllocError>
         Op::Del { key } => Ok(Some(Entry::del(key.copy()?, NUMBER)?)),
         Op::DelSpan { .. } => Ok(None),
     }
-}
-
-/// Writes the fragments.
-fn add_spans(writer: &mut TableWriter, fragments: &Fragments) -> Result<(), AllocError>
-    requires none { writer.old.spans ≡ [] }
-    requires small { All (λ t. t.seq < 2 ^ 56) fragments.now }
-    ensures { OnOk result (writer.new ≡ content writer.old.points (map span_row fragments.now)) }
-{
-    for span in fragments.list() {
-        writer.add_span(span)?;
-    }
-    Ok(())
 }

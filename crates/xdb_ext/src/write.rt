@@ -2,15 +2,15 @@
 ghost use Rattle.std.specs.Prelude.{◌≡◌, ◌⊎◌, ◌+◌, ◌≤◌, nat_eq, [], ◌∷◌, ◌++◌, length, vec_capacity, IfOk, IfErr, OnOk, OnErr, IfSome, IsErrOf};
 ghost use Rattle.std.specs.List.{IsDistinct};
 ghost use Rattle.xdb_device.specs.Counted.{Counted};
-ghost use Rattle.xdb_device.specs.Told.{Created};
-ghost use Rattle.xdb_ext.specs.Loads.{AreTables, FitsLoad, nums_of, numbered_files};
-ghost use Rattle.xdb_ext.specs.Work.{tried_by, IsStopped, AreFirst, Tried, AreHeld};
+ghost use Rattle.xdb_ext.specs.Loads.{AreTables, FitsLoad, numbered_files};
+ghost use Rattle.xdb_work.specs.Work.{nums_of, tried_by, IsStopped, AreFirst, Tried, AreHeld};
 
 use crate::table::write;
 use crate::{LoadFiles, LoadParts};
 use std::alloc::{AllocError, Global};
-use xdb_device::{DevNo, Device, WorkCause, WorkFault};
+use xdb_device::{Device, WorkCause, WorkFault};
 use xdb_key::{Extent, Ops};
+use xdb_work::{create, put};
 
 /// Writes a file for each table, in order. Where a call of the device fails or memory runs out, it stops
 /// and names the numbers that it tried to create: a file may stand in part under each of them.
@@ -67,35 +67,4 @@ fn write_files<D: Device>(
         put(&mut files, (*num, table.extent, file));
     }
     Ok(files)
-}
-
-/// Creates the file, and names its number among those that were tried.
-fn create<D: Device>(
-    dev: &mut D,
-    num: u64,
-    bytes: &[u8],
-    tried: &mut Vec<u64>,
-) -> Result<D::File, DevNo>
-    requires { length tried.old.items + 1 ≤ vec_capacity tried.old }
-    ensures tried { tried.new.items ≡ tried.old.items ++ num ∷ [] }
-    ensures capacity { vec_capacity tried.old ≤ vec_capacity tried.new }
-
-    ensures counted { Counted D.faults D.misses D.frame dev.old dev.new (IsErrOf result DevNo.Failed) }
-    ensures told { Created num bytes.now result (D.told dev.old) (D.told dev.new) }
-    ensures size { IfOk result (λ file. D.File.size file ≡ length bytes.now) }
-    ensures bytes { IfOk result (λ file. IfSome (D.File.bytes file) (λ told. told ≡ bytes.now)) }
-{
-    put(tried, num);
-    dev.create(num, bytes)
-}
-
-/// Puts the item behind the others. There is room for it.
-fn put<T: Drop>(items: &mut Vec<T>, item: T)
-    requires { length items.old.items + 1 ≤ vec_capacity items.old }
-    ensures put { items.new.items ≡ items.old.items ++ item ∷ [] }
-    ensures capacity { vec_capacity items.old ≤ vec_capacity items.new }
-{
-    if items.push(item).is_err() {
-        unreachable!();
-    }
 }

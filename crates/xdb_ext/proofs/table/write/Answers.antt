@@ -3,15 +3,9 @@ use Rattle.std.proofs.Common.{◌+◌, ◌≤◌, length, sym, subst}
 use Rattle.xdb_table_w.specs.Extents.{IsExtent}
 use Rattle.xdb_table_w.specs.Files.{IsTable}
 use Rattle.xdb_ext.specs.Operations.{rows_of}
-use Rattle.xdb_ext.proofs.BoundsLaws.{pieced, small_numbers, is_written, some_rows, extent_of_ops}
-use Rattle.xdb_ext.proofs.FileLaws.{file_some}
+use Rattle.xdb_ext.proofs.BoundsLaws.{pieced, is_written, some_rows, extent_of_ops}
+use Rattle.xdb_work.proofs.FileLaws.{file_some}
 use Rattle.xdb_ext.proofs.table.write.Goals as goal
-
-pub add_spans-requires-clause-small : goal.add_spans-requires-clause-small
-add_spans-requires-clause-small c =
-    let ops = c.args.ops.now in
-    let p = pieced ops c.in_ok-spans.field-0.items c.deref.result.now c.in_ok-fragments.fragments c.in_ok-spans.ensures.made c.deref.ensures.value c.in_ok-spans.ensures.ordered c.in_ok-fragments.ensures.pieces in
-    small_numbers ops c.in_ok-fragments.fragments p
 
 pub finish-requires : goal.finish-requires
 finish-requires c =

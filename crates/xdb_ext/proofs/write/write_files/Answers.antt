@@ -4,8 +4,8 @@ use Rattle.std.proofs.Math.Nat.{le_trans}
 use Rattle.xdb_device.proofs.Counts.{Counted-refl, Counted-then, Counted-where}
 use Rattle.xdb_ext.specs.Operations.{IsFileOf}
 use Rattle.xdb_ext.specs.TableBounds.{IsExtentOf}
-use Rattle.xdb_ext.proofs.WorkLaws.{stopped_by, fault_means, tried_where}
-use Rattle.xdb_ext.proofs.LoadLaws.{one_longer, written_first, written_more, whole, stopped, stopped_at}
+use Rattle.xdb_work.proofs.WorkLaws.{stopped_by, fault_means, tried_where, one_longer}
+use Rattle.xdb_ext.proofs.LoadLaws.{written_first, written_more, whole, stopped, stopped_at}
 use Rattle.xdb_ext.proofs.write.write_files.Goals as goal
 
 pub loop-num-init : goal.loop-num-init

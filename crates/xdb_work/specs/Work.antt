@@ -1,6 +1,6 @@
 -- What a piece of work does to a device: it creates files under numbers that its given reserves, in their order,
--- and gives these files, or names the numbers that it tried. A build of tables keeps the same records.
-use Rattle.std.specs.Prelude.{◌≡◌, ℕ, ◌-◌, ◌⊎◌, List, length, take, nat_eq, Option, Some, IfSome, Result, Ok, Err}
+-- and gives these files, or names the numbers that it tried.
+use Rattle.std.specs.Prelude.{◌≡◌, ℕ, ◌-◌, ◌<◌, ◌⊎◌, List, length, get_or, map, take, nat_eq, Option, Some, IfSome, Result, Ok, Err}
 use Rattle.std.specs.FinMap as map
 use Rattle.std.specs.Io.KnownBytes.{append_known}
 use Rattle.std.specs.List.{AllByRecursion, IsDistinct}
@@ -9,6 +9,10 @@ use Rattle.xdb_device.specs.Told.{Held, Told, IsListed}
 use Rattle.xdb_device.specs.declared.fault.WorkCause.{WorkCause}
 use Rattle.xdb_device.specs.declared.fault.WorkFault.{WorkFault}
 use Rattle.xdb_rangedel.specs.Members.{Has}
+
+-- the numbers of numbered things
+abbrev pub nums_of : {A : Type 0} → List (ℕ × A) → List ℕ
+nums_of xs = map (λ x. x.0) xs
 
 -- The numbers that `create` was called with: those of the files that are given, or those that the fault names.
 abbrev pub tried_by : {A : Type 0} → (A → List ℕ) → Result A WorkFault → List ℕ
@@ -19,6 +23,11 @@ tried_by nums (Err fault) = fault.tried.items
 abbrev pub IsStopped : {A : Type 0} → WorkCause → Result A WorkFault → Type 0
 IsStopped cause (Ok out) = ⊥
 IsStopped cause (Err fault) = fault.cause ≡ cause
+
+-- the number at a place among those that are reserved
+pub record IsNext (reserved : List ℕ) (i num : ℕ) : Type 0 where
+  pub inside : i < length reserved
+  pub is : num ≡ get_or reserved i num
 
 -- the first of the reserved numbers
 abbrev pub AreFirst : List ℕ → List ℕ → Type 0

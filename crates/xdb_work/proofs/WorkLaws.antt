@@ -1,5 +1,5 @@
 -- Work that creates one file after another, as what its device tells sees it.
-use Rattle.std.proofs.Common.{◌≡◌, ℕ, zero, suc, ◌+◌, ◌-◌, ◌<◌, ◌≤◌, false, cond, List, [], ◌∷◌, ◌++◌, length, get_or, take, map, Option, Some, None, IfSome, Result, Ok, Err, inl, inr, ◌⊎◌, refl, sym, ap, ◌∙◌, subst, arith, append_assoc, append-nil}
+use Rattle.std.proofs.Common.{◌≡◌, ℕ, zero, suc, ◌+◌, ◌-◌, ◌≤◌, false, cond, List, [], ◌∷◌, ◌++◌, length, take, map, Option, Some, None, IfSome, Result, Ok, Err, inl, inr, ◌⊎◌, refl, sym, ap, ◌∙◌, subst, arith, append_assoc, append-nil}
 use Rattle.std.proofs.lemmas.Bool.{false≢true, eq-eqb, ne_eqb}
 use Rattle.std.proofs.lemmas.Cmp.{nat_cmp_total, eq_by_cmp_equiv}
 use Rattle.std.proofs.lemmas.List.{take_more, length-append, length-take-le}
@@ -20,23 +20,21 @@ use Rattle.xdb_device.specs.declared.fault.WorkCause.TheVariants as causes
 use Rattle.xdb_rangedel.proofs.FragmentLaws.{All-at_Has}
 use Rattle.xdb_rangedel.proofs.MemberLaws.{Has-from_Contains, Contains-from_Has, Has-append_left, Has-append_right, Has-append_cases, Has-get_or}
 use Rattle.xdb_rangedel.specs.Members.{Has}
-use Rattle.xdb_ext.specs.Work.{AreNew, Tried, IsHeld, AreHeld, under, but_last}
+use Rattle.xdb_work.specs.Work.{IsNext, AreNew, Tried, IsHeld, AreHeld, under, but_last}
 
 -- ---- numbers
 
--- a number at its place among those that are reserved
-pub record At (nums : List ℕ) (i num : ℕ) : Type 0 where
-  pub inside : i < length nums
-  pub is : num ≡ get_or nums i num
+pub one_longer : {A : Type 0} (xs ys : List A) (x : A) (n : ℕ) → ys ≡ xs ++ x ∷ [] → length xs ≡ n → length ys ≡ n + 1
+one_longer xs ys x n is count = omega (arith, ap length is, length-append xs (x ∷ []), count)
 
-more : (nums : List ℕ) (i num : ℕ) → At nums i num → take (i + 1) nums ≡ take i nums ++ num ∷ []
+more : (nums : List ℕ) (i num : ℕ) → IsNext nums i num → take (i + 1) nums ≡ take i nums ++ num ∷ []
 more nums i num at = take_more nums i num at.inside ∙ ap (λ n. take i nums ++ n ∷ []) (sym at.is)
 
-has_later : (nums : List ℕ) (i num : ℕ) → At nums i num → Has nums num
+has_later : (nums : List ℕ) (i num : ℕ) → IsNext nums i num → Has nums num
 has_later nums i num at = subst (λ n. Has nums n) (sym at.is) (Has-get_or nums i num at.inside)
 
 -- the number at a place isn't among those before
-pub apart : (nums : List ℕ) (i num : ℕ) → IsDistinct nat_eq nums → At nums i num → Has (take i nums) num → ⊥
+pub apart : (nums : List ℕ) (i num : ℕ) → IsDistinct nat_eq nums → IsNext nums i num → Has (take i nums) num → ⊥
 unfolding IsDistinct
 apart [] i num distinct at has = absurd (omega (arith, at.inside))
 apart (m ∷ nums) zero num distinct at has = absurd has
@@ -96,7 +94,7 @@ tried_where reserved tried a b means t = record {
 created_all : {P : Type 0} (known new : Option (List ℕ)) (nums : List ℕ) → (P → ⊥) → (new ≡ append_known known nums) ⊎ (P × (new ≡ append_known known (but_last nums))) → new ≡ append_known known nums
 created_all known new nums never t = elim t [ inl e ↦ e | inr e ↦ absurd (never e.0) ]
 
-given_up_same : (reserved : List ℕ) (i num : ℕ) (old mid new : Told) → At reserved i num → mid.creations ≡ append_known old.creations (take i reserved) → (AreNew reserved old.creations → mid.given_up ≡ old.given_up)
+given_up_same : (reserved : List ℕ) (i num : ℕ) (old mid new : Told) → IsNext reserved i num → mid.creations ≡ append_known old.creations (take i reserved) → (AreNew reserved old.creations → mid.given_up ≡ old.given_up)
     → (new.given_up ≡ mid.given_up) ⊎ ((new.given_up ≡ noted num mid.given_up) × IsListed num mid.creations) → AreNew reserved old.creations → new.given_up ≡ old.given_up
 given_up_same reserved i num old mid new at was before gave fresh = elim gave [
   | inl e ↦ e ∙ before fresh
@@ -106,18 +104,18 @@ given_up_same reserved i num old mid new at was before gave fresh = elim gave [
   ])
 ]
 
-not_last : (nums : List ℕ) (i num other : ℕ) → At nums i num → (Has (take (i + 1) nums) other → ⊥) → (other ≡ num → ⊥) × (Has (take i nums) other → ⊥)
+not_last : (nums : List ℕ) (i num other : ℕ) → IsNext nums i num → (Has (take (i + 1) nums) other → ⊥) → (other ≡ num → ⊥) × (Has (take i nums) other → ⊥)
 not_last nums i num other at not = (
   λ same. not (subst (λ ns. Has ns other) (sym (more nums i num at)) (Has-append_right (take i nums) (num ∷ []) other (inl (sym same)))),
   λ has. not (subst (λ ns. Has ns other) (sym (more nums i num at)) (Has-append_left (take i nums) (num ∷ []) other has)),
 )
 
-listed_more : (old mid new : Option (List ℕ)) (nums : List ℕ) (i num : ℕ) → At nums i num → mid ≡ append_known old (take i nums) → new ≡ noted num mid → new ≡ append_known old (take (i + 1) nums)
+listed_more : (old mid new : Option (List ℕ)) (nums : List ℕ) (i num : ℕ) → IsNext nums i num → mid ≡ append_known old (take i nums) → new ≡ noted num mid → new ≡ append_known old (take (i + 1) nums)
 listed_more old mid new nums i num at was made =
     made ∙ ap (noted num) was ∙ noted_more old (take i nums) num ∙ ap (append_known old) (sym (more nums i num at))
 
 -- one more file was created
-pub tried_more : {F : Type 0} (reserved : List ℕ) (i num : ℕ) (bytes : List ℕ) (file : F) (old mid new : Told) → At reserved i num → Tried reserved (take i reserved) ⊥ old mid → Created num bytes (Ok file) mid new → Tried reserved (take (i + 1) reserved) ⊥ old new
+pub tried_more : {F : Type 0} (reserved : List ℕ) (i num : ℕ) (bytes : List ℕ) (file : F) (old mid new : Told) → IsNext reserved i num → Tried reserved (take i reserved) ⊥ old mid → Created num bytes (Ok file) mid new → Tried reserved (take (i + 1) reserved) ⊥ old new
 tried_more reserved i num bytes file old mid new at t c =
     let was = created_all old.creations mid.creations (take i reserved) (λ never. never) t.creations in
     record {
@@ -135,7 +133,7 @@ but_last-push nums n =
     ap (λ k. take k (nums ++ n ∷ [])) len ∙ take-append_seam nums (n ∷ [])
 
 -- the number of a call that failed is listed; without memory it is listed or not
-listed_failed : {F : Type 0} (reserved : List ℕ) (i num : ℕ) (bytes : List ℕ) (why : DevNo) (result : Result F DevNo) (old mid new : Told) → At reserved i num → mid.creations ≡ append_known old.creations (take i reserved) → result ≡ Err why → Created num bytes result mid new
+listed_failed : {F : Type 0} (reserved : List ℕ) (i num : ℕ) (bytes : List ℕ) (why : DevNo) (result : Result F DevNo) (old mid new : Told) → IsNext reserved i num → mid.creations ≡ append_known old.creations (take i reserved) → result ≡ Err why → Created num bytes result mid new
     → (new.creations ≡ append_known old.creations (take (i + 1) reserved)) ⊎ ((cause_of why ≡ causes.Memory) × (new.creations ≡ append_known old.creations (but_last (take (i + 1) reserved))))
 listed_failed reserved i num bytes dev.Failed result old mid new at was is c = inl (listed_more old.creations mid.creations new.creations reserved i num at was (c.listed_failed is))
 listed_failed reserved i num bytes dev.Memory result old mid new at was is c = elim (c.listed_memory is) [
@@ -144,7 +142,7 @@ listed_failed reserved i num bytes dev.Memory result old mid new at was is c = e
 ]
 
 -- a file wasn't created
-pub tried_failed : {F : Type 0} (reserved : List ℕ) (i num : ℕ) (bytes : List ℕ) (why : DevNo) (old mid new : Told) → At reserved i num → Tried reserved (take i reserved) ⊥ old mid → Created {F = F} num bytes (Err why) mid new → Tried reserved (take (i + 1) reserved) (cause_of why ≡ causes.Memory) old new
+pub tried_failed : {F : Type 0} (reserved : List ℕ) (i num : ℕ) (bytes : List ℕ) (why : DevNo) (old mid new : Told) → IsNext reserved i num → Tried reserved (take i reserved) ⊥ old mid → Created {F = F} num bytes (Err why) mid new → Tried reserved (take (i + 1) reserved) (cause_of why ≡ causes.Memory) old new
 tried_failed reserved i num bytes why old mid new at t c =
     let was = created_all old.creations mid.creations (take i reserved) (λ never. never) t.creations in
     record {
@@ -164,6 +162,10 @@ first_numbers nums tried i inside is = is ∙ ap (λ n. take n nums) (sym (ap le
 -- ---- files that are held
 
 module _ {F : Type 0} (size : F → ℕ) (bytes : F → Option (List ℕ)) where
+  pub held_none : (holds : Option Held) → AreHeld size bytes holds []
+  held_none None = tt
+  held_none (Some held) = tt
+
   held_beside : (held : Held) (num : ℕ) (is : List ℕ) (files : List (ℕ × F)) → (Has (map (λ f. f.0) files) num → ⊥) → AllByRecursion (IsHeld size bytes held) files → AllByRecursion (IsHeld size bytes (map.insert held num is)) files
   held_beside held num is [] apart all = tt
   held_beside held num is (f ∷ files) apart all = (
@@ -207,5 +209,5 @@ fault_means result why is fault = ap Err (is_failed why (same_cause _ _ (sym is 
     same_cause : {T : Type 0} (a b : WorkCause) → ◌≡◌ {A = Result T WorkCause} (Err a) (Err b) → a ≡ b
     same_cause a b e = cc
 
-pub tried_next : (nums : List ℕ) (i num : ℕ) (old new : List ℕ) → At nums i num → old ≡ take i nums → new ≡ old ++ num ∷ [] → new ≡ take (i + 1) nums
+pub tried_next : (nums : List ℕ) (i num : ℕ) (old new : List ℕ) → IsNext nums i num → old ≡ take i nums → new ≡ old ++ num ∷ [] → new ≡ take (i + 1) nums
 tried_next nums i num old new at was made = made ∙ ap (λ ns. ns ++ num ∷ []) was ∙ sym (more nums i num at)

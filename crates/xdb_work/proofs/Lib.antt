@@ -1,0 +1,3 @@
+pub mod WorkLaws
+pub mod FileLaws
+pub mod FragmentLaws
