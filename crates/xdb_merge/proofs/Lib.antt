@@ -7,4 +7,4 @@ mod SearchLaws
 mod LoadLaws
 mod SourceLaws
 mod MoveLaws
-mod TableLaws
+pub mod TableLaws

@@ -1,5 +1,5 @@
 -- Views are read one after the other, up to the first that has a defect.
-use Rattle.std.proofs.Common.{◌≡◌, ℕ, zero, suc, ◌+◌, ◌<◌, ◌≤◌, true, List, [], ◌∷◌, ◌++◌, length, get_or, take, drop, Option, Some, None, IfSome, Result, Ok, Err, IsErr, IsErrOf, IsErrAnd, IfErr, inl, inr, slice_set, refl, sym, ap, ◌∙◌, subst, arith}
+use Rattle.std.proofs.Common.{◌≡◌, ℕ, zero, suc, ◌+◌, ◌<◌, ◌≤◌, true, List, [], ◌∷◌, ◌++◌, length, get_or, take, drop, Option, Some, None, IfSome, Result, Ok, Err, IsOk, IsErr, IsErrOf, IsErrAnd, IfErr, inl, inr, slice_set, refl, sym, ap, ◌∙◌, subst, arith}
 use Rattle.std.proofs.lemmas.Bool.{false≢true}
 use Rattle.std.proofs.lemmas.List.{take_more_set, take_all, drop_all, append-nil, drop-set-lt, drop-drop, get_or-drop}
 use Rattle.std.specs.List.{AllByRecursion}
@@ -50,6 +50,11 @@ some_points (Some b) ps read h = (ps, h)
 -- what succeeds answers no fault
 pub no_fault : {X : Type 0} {x : X} {e : TableNo} → IsErrOf {T = X} (Ok x) e → ⊥
 no_fault h = absurd (cc)
+
+-- what didn't fail has no error to pass on
+pub never_err : {X Y : Type 0} (r : Result X TableNo) (e : TableNo) (passed : Result Y TableNo) → r ≡ Err e → IsOk r → IsOk passed
+never_err (Ok x) e passed is ok = absurd (cc)
+never_err (Err y) e passed is ok = absurd (false≢true ok)
 
 -- what a loop over a vector's slice wrote stands in the vector
 pub written : {A : Type 0} (n : ℕ) (now old : List A) → n ≡ length old → length now ≡ length old → take n (now ++ drop (length now) old) ≡ now

@@ -1,17 +1,23 @@
 -- Views of tables show what the tables have, and a defect that is named is one of a table.
-use Rattle.std.proofs.Common.{◌≡◌, ℕ, ◌+◌, ◌<◌, ◌≤◌, List, [], ◌∷◌, ◌++◌, length, get_or, take, map, Option, Some, None, IsSome, IfSome, Result, Ok, Err, IsErr, IsErrAnd, IsErrOf, IfErr, inl, inr, refl, sym, ap, ◌∙◌, subst}
-use Rattle.std.proofs.lemmas.Bool.{false≢true}
+use Rattle.std.proofs.Common.{◌≡◌, ℕ, ◌+◌, ◌<◌, ◌≤◌, true, false, cond, List, [], ◌∷◌, ◌++◌, length, get_or, take, map, append-nil, Option, Some, None, IsSome, IfSome, Result, Ok, Err, IsErr, IsErrAnd, IsErrOf, IfErr, inl, inr, refl, sym, ap, ◌∙◌, subst}
+use Rattle.std.proofs.lemmas.Bool.{cases_Bool, and_parts, and_from, false≢true}
 use Rattle.std.proofs.lemmas.List.{take_more, take_all}
+use Rattle.std.proofs.lemmas.List.Elements.{filter-append}
 use Rattle.std.specs.List.{AllByRecursion}
-use Rattle.xdb_key.specs.Bounds.{bounds}
+use Rattle.xdb_key.specs.Bounds.{Bounds, bounds, holds, meets}
 use Rattle.xdb_key.specs.Entries.{Point}
+use Rattle.xdb_key.specs.Order.{is_below, is_upto}
 use Rattle.xdb_key.specs.Reading.{◌>>=◌}
+use Rattle.xdb_key.proofs.OrderLaws.{upto_below}
 use Rattle.xdb_mem.specs.Parts.{Parts}
+use Rattle.xdb_mem.proofs.PickLaws.{Has-filter}
 use Rattle.xdb_meta.specs.Table.{Table, bounds_of}
-use Rattle.xdb_rangedel.specs.Content.{Item, content_of}
+use Rattle.xdb_rangedel.specs.Content.{Item, newer, newest, content_of}
 use Rattle.xdb_rangedel.specs.Members.{Has}
-use Rattle.xdb_rangedel.specs.View.{view}
+use Rattle.xdb_rangedel.specs.View.{renumbered, view}
 use Rattle.xdb_rangedel.proofs.MemberLaws.{Has-get_or}
+use Rattle.xdb_rangedel.proofs.NewestLaws.{newest-append}
+use Rattle.xdb_rangedel.proofs.RangeLaws.{newest-view}
 use Rattle.xdb_table_r.specs.Contents.{content_in}
 use Rattle.xdb_table_r.specs.Cursors.{Walk}
 use Rattle.xdb_table_r.specs.Opening.{IsNo, opened, opened_at}
@@ -23,7 +29,7 @@ use Rattle.xdb_table_r.proofs.ContentLaws.{seen_is_view}
 use Rattle.xdb_merge.specs.Layers.{content_of_layers}
 use Rattle.xdb_merge.specs.Merge.{layer_of, layers}
 use Rattle.xdb_merge.specs.Steps.{IsLoaded, IsFirstDefect, NamesDefect, views}
-use Rattle.xdb_merge.specs.Tables.{table_at, shown, content_told, content_of_tables, AreTold, IsViewOf, AreViewsOf, IsDamage, NamesDamage}
+use Rattle.xdb_merge.specs.Tables.{table_at, shown, content_told, tables_in, content_of_tables, AreTold, IsViewOf, AreViewsOf, IsDamage, NamesDamage}
 
 -- ---- results one after the other
 
@@ -50,6 +56,21 @@ if_then (Some x) P R h p = h x p
 pub not_fault : {X : Type 0} (r : Result X TableNo) → IsErr r × IsErrAnd r (λ y. y ≡ Memory) → IsErrOf r ReadFault → ⊥
 not_fault (Ok x) e fault = false≢true e.0
 not_fault (Err y) e fault = let same : y ≡ ReadFault = cc in let is : y ≡ Memory = e.1 in absurd (cc)
+
+-- what is silent is so whatever came before it
+bind-silent : {A : Type 0} (r : Result A ℕ) (f : A → Result (List Item) ℕ) (limit : ℕ) (k : List ℕ) → ((x : A) → newest (shown (f x)) limit k ≡ None) → newest (shown (r >>= f)) limit k ≡ None
+bind-silent (Ok x) f limit k h = h x
+bind-silent (Err b) f limit k h = refl
+
+-- a range that holds a key meets each other one that does
+outside_apart : (a b : Bounds) (k : List ℕ) → holds b k ≡ true → meets a b ≡ false → holds a k ≡ false
+outside_apart a b k at_k apart = elim (cases_Bool (holds a k)) [
+  | inr e ↦ e
+  | inl e ↦
+      let one = and_parts (is_upto a.lo k) (is_below k a.hi) e in
+      let two = and_parts (is_upto b.lo k) (is_below k b.hi) at_k in
+      absurd (false≢true (sym apart ∙ and_from (is_below a.lo b.hi) (is_below b.lo a.hi) (upto_below a.lo k b.hi one.0 two.1) (upto_below b.lo k a.hi two.0 one.1)))
+]
 
 module _ {F : Type 0} (bytes : F → Option (List ℕ)) where
   -- ---- opening
@@ -151,3 +172,67 @@ module _ {F : Type 0} (bytes : F → Option (List ℕ)) where
   damage_is_of_tables ts vs (Damaged backing at) are h = defect_among ts vs backing at are h
   damage_is_of_tables ts vs ReadFault are h = tt
   damage_is_of_tables ts vs Memory are h = tt
+
+  -- ---- the tables of a range
+
+  in_more : (r : Bounds) (ts : List (Table × F)) (i : ℕ) (t : Table × F) → i < length ts → t ≡ get_or ts i t → tables_in r (take (i + 1) ts) ≡ tables_in r (take i ts) ++ cond (meets (bounds_of t.0) r) (t ∷ []) []
+  in_more r ts i t inside at =
+      ap (tables_in r) (take_more ts i t inside ∙ ap (λ u. take i ts ++ u ∷ []) (sym at))
+      ∙ filter-append (λ u. meets (bounds_of u.0) r) (take i ts) (t ∷ [])
+
+  pub views_more_in : (r : Bounds) (ts : List (Table × F)) (i : ℕ) (t : Table × F) (vs : List (Shown F)) (v : Shown F) → i < length ts → t ≡ get_or ts i t → meets (bounds_of t.0) r ≡ true → AreViewsOf bytes (tables_in r (take i ts)) vs → IsViewOf bytes t v → AreViewsOf bytes (tables_in r (take (i + 1) ts)) (vs ++ v ∷ [])
+  views_more_in r ts i t vs v inside at meet h is =
+      subst (λ us. AreViewsOf bytes us (vs ++ v ∷ [])) (sym (in_more r ts i t inside at ∙ ap (λ b. tables_in r (take i ts) ++ cond b (t ∷ []) []) meet))
+      (views_joined (tables_in r (take i ts)) vs t v h is)
+
+  pub views_same_in : (r : Bounds) (ts : List (Table × F)) (i : ℕ) (t : Table × F) (vs : List (Shown F)) → i < length ts → t ≡ get_or ts i t → meets (bounds_of t.0) r ≡ false → AreViewsOf bytes (tables_in r (take i ts)) vs → AreViewsOf bytes (tables_in r (take (i + 1) ts)) vs
+  views_same_in r ts i t vs inside at apart h =
+      subst (λ us. AreViewsOf bytes us vs) (sym (in_more r ts i t inside at ∙ ap (λ b. tables_in r (take i ts) ++ cond b (t ∷ []) []) apart ∙ append-nil (tables_in r (take i ts)))) h
+
+  pub views_all_in : (r : Bounds) (ts : List (Table × F)) (i : ℕ) (vs : List (Shown F)) → length ts ≤ i → AreViewsOf bytes (tables_in r (take i ts)) vs → AreViewsOf bytes (tables_in r ts) vs
+  views_all_in r ts i vs past h = subst (λ us. AreViewsOf bytes (tables_in r us) vs) (take_all i ts past) h
+
+  pub has_in : (r : Bounds) (ts : List (Table × F)) (i : ℕ) (t : Table × F) → i < length ts → t ≡ get_or ts i t → meets (bounds_of t.0) r ≡ true → Has (tables_in r ts) t
+  has_in r ts i t inside is meet = Has-filter (λ u. meets (bounds_of u.0) r) ts t (subst (Has ts) (sym is) (Has-get_or ts i t inside)) meet
+
+  none_in : (r : Bounds) (ts : List (Table × F)) (i : ℕ) (t : Table × F) → i < length ts → t ≡ get_or ts i t → meets (bounds_of t.0) r ≡ true → tables_in r ts ≡ [] → ⊥
+  none_in r ts i t inside is meet none = subst (λ us. Has us t) none (has_in r ts i t inside is meet)
+
+  -- where there is no table of the range, this one isn't opened
+  pub alone_in : {D : Type 0} (a b : D) (r : Bounds) (ts : List (Table × F)) (i : ℕ) (t : Table × F) → i < length ts → t ≡ get_or ts i t → meets (bounds_of t.0) r ≡ true → tables_in r ts ≡ [] → a ≡ b
+  alone_in a b r ts i t inside is meet none = absurd (none_in r ts i t inside is meet none)
+
+  pub calm_in : {X : Type 0} (res : Result X TableNo) (r : Bounds) (ts : List (Table × F)) (i : ℕ) (t : Table × F) → i < length ts → t ≡ get_or ts i t → meets (bounds_of t.0) r ≡ true → tables_in r ts ≡ [] → IfErr res (λ no. no ≡ Memory)
+  calm_in res r ts i t inside is meet none = absurd (none_in r ts i t inside is meet none)
+
+  pub damage_in : (r : Bounds) (ts : List (Table × F)) (i : ℕ) (t : Table × F) (no : TableNo) → i < length ts → t ≡ get_or ts i t → meets (bounds_of t.0) r ≡ true → NamesDamage bytes (t ∷ []) no → NamesDamage bytes (tables_in r ts) no
+  damage_in r ts i t (Damaged b at) inside is meet h = elim h.1 [
+    | inl e ↦ (h.0, subst (Has (tables_in r ts)) e (has_in r ts i t inside is meet), h.2)
+    | inr never ↦ absurd never
+  ]
+  damage_in r ts i t ReadFault inside is meet h = tt
+  damage_in r ts i t Memory inside is meet h = tt
+
+  -- a table says nothing outside its bounds
+  silent_outside : (o : Option (List ℕ)) (t : Table) (limit : ℕ) (k : List ℕ) → holds (bounds_of t) k ≡ false → newest (content_told o t) limit k ≡ None
+  silent_outside None t limit k outside = refl
+  silent_outside (Some file) t limit k outside =
+      bind-silent (opened_at file) (λ o. points_at o.index file >>= λ rows. Ok (view (content_in rows o.spans) (bounds_of t) t.synthetic)) limit k
+      (λ o. bind-silent (points_at o.index file) (λ rows. Ok (view (content_in rows o.spans) (bounds_of t) t.synthetic)) limit k
+      (λ rows. newest-view (content_in rows o.spans) (bounds_of t) t.synthetic limit k
+      ∙ ap (λ b. cond b (newest (renumbered t.synthetic (content_in rows o.spans)) limit k) None) outside))
+
+  pub others_say_nothing : (ts : List (Table × F)) (r : Bounds) (limit : ℕ) (k : List ℕ) → holds r k ≡ true → newest (content_of_tables bytes (tables_in r ts)) limit k ≡ newest (content_of_tables bytes ts) limit k
+  others_say_nothing [] r limit k at_k = refl
+  others_say_nothing (t ∷ ts) r limit k at_k =
+      let own = content_told (bytes t.1) t.0 in
+      let rest = others_say_nothing ts r limit k at_k in
+      let whole = newest-append own (content_of_tables bytes ts) limit k in
+      elim (cases_Bool (meets (bounds_of t.0) r)) [
+        | inl meet ↦
+            ap (λ b. newest (content_of_tables bytes (cond b (t ∷ tables_in r ts) (tables_in r ts))) limit k) meet
+            ∙ newest-append own (content_of_tables bytes (tables_in r ts)) limit k ∙ ap (newer (newest own limit k)) rest ∙ sym whole
+        | inr apart ↦
+            ap (λ b. newest (content_of_tables bytes (cond b (t ∷ tables_in r ts) (tables_in r ts))) limit k) apart
+            ∙ rest ∙ ap (λ o. newer o (newest (content_of_tables bytes ts) limit k)) (sym (silent_outside (bytes t.1) t.0 limit k (outside_apart (bounds_of t.0) r k at_k apart))) ∙ sym whole
+      ]

@@ -1,7 +1,7 @@
 -- What tables have, as the bytes of their files have it, and the views that show it.
 use Rattle.std.specs.Prelude.{◌≡◌, ℕ, List, [], ◌∷◌, Option, Some, None, Result, Ok, Err, IsSome, IfSome}
-use Rattle.std.specs.List.{AllByRecursion, flat_map}
-use Rattle.xdb_key.specs.Bounds.{Bounds}
+use Rattle.std.specs.List.{AllByRecursion, filter, flat_map}
+use Rattle.xdb_key.specs.Bounds.{Bounds, meets}
 use Rattle.xdb_key.specs.Reading.{◌>>=◌}
 use Rattle.xdb_meta.specs.Table.{Table, bounds_of}
 use Rattle.xdb_rangedel.specs.Content.{Item}
@@ -28,6 +28,10 @@ shown (Err at) = []
 abbrev pub content_told : Option (List ℕ) → Table → List Item
 content_told None t = []
 content_told (Some file) t = shown (table_at file (bounds_of t) t.synthetic)
+
+-- the tables that may have keys of the range
+abbrev pub tables_in : {F : Type 0} → Bounds → List (Table × F) → List (Table × F)
+tables_in r ts = filter (λ t. meets (bounds_of t.0) r) ts
 
 module _ {F : Type 0} (bytes : F → Option (List ℕ)) where
   abbrev pub content_of_tables : List (Table × F) → List Item

@@ -12,7 +12,7 @@ mod tables;
 
 pub use merged::Merged;
 pub use std::alloc::AllocError as Memory;
-pub use tables::open_views;
+pub use tables::{open_views, open_views_in};
 
 #[cfg(test)]
 mod tests;

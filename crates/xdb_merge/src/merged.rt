@@ -1,4 +1,4 @@
-ghost use Rattle.std.specs.Prelude.{◌≡◌, map, IfOk, IsErrOf};
+ghost use Rattle.std.specs.Prelude.{◌≡◌, map, IfOk, IfErr, IsErrOf};
 ghost use Rattle.xdb_device.specs.Counted.{Counted};
 ghost use Rattle.xdb_plain.specs.declared.question.Place.TheVariants.{Before};
 ghost use Rattle.xdb_plain.specs.declared.question.Step.TheVariants as steps;
@@ -22,33 +22,33 @@ use xdb_table_r::{TableNo, View};
 /// is answered as the entry that decides.
 ///
 /// A cursor stands before the first pair at first. Its first call reads the views; a call that fails leaves
-/// the place, and what it read stays read.
+/// the place, and what it read stays read. What memtables have is borrowed, so a cursor costs nothing for it.
 #[derive(Drop)]
-pub struct Merged<F: FileRef> {
-    mem: MemParts,
+pub struct Merged<'a, F: FileRef> {
+    mem: &'a MemParts,
     sources: Vec<Source<F>>,
     bounds: KeyRange,
     at: u64,
     place: Place,
 }
 
-impl<F: FileRef> Model for Merged<F> {
+impl<'a, F: FileRef> Model for Merged<'a, F> {
     ghost use Rattle.xdb_merge.specs.Merge.{Merge, merge};
 
     ghost Value = { Merge F };
 
-    ghost view = { λ m. merge m.mem m.sources.items m.bounds m.at m.place };
+    ghost view = { λ m. merge m.mem.now m.sources.items m.bounds m.at m.place };
 }
 
-impl<F: FileRef> Merged<F> {
+impl<'a, F: FileRef> Merged<'a, F> {
     /// A cursor before the first pair. Numbers from `at` on aren't seen. Nothing is read yet.
     pub fn new(
-        mem: MemParts,
+        mem: &'a MemParts,
         views: Vec<View<F>>,
         bounds: KeyRange,
         at: u64,
     ) -> Result<Self, AllocError>
-        ensures { IfOk result (λ made. made ≡ merge mem (map unread views.items) bounds at Before) }
+        ensures { IfOk result (λ made. made ≡ merge mem.now (map unread views.items) bounds at Before) }
     {
         let sources = sources(*views.allocator(), views)?;
         Ok(Merged {
@@ -62,7 +62,8 @@ impl<F: FileRef> Merged<F> {
 
     /// The cursor at a place, as one that has gone there.
     pub fn with_place(self, place: Place) -> Self
-        ensures { result ≡ merge self.mem self.walks self.bounds self.at place }
+        ensures { result
+            ≡ merge self.entry.mem self.entry.walks self.entry.bounds self.entry.at place }
     {
         let Merged {
             mem,
@@ -87,13 +88,21 @@ impl<F: FileRef> Merged<F> {
         &self.place
     }
 
+    /// Gives back where it stands, without memory.
+    pub fn into_place(self) -> Place
+        ensures { result ≡ self.entry.place }
+    {
+        self.place
+    }
+
     /// Goes to the next pair. Behind the last one it stays.
     pub fn next<R: Reader<File = F>>(&mut self, dev: &mut R) -> Result<Option<Entry>, TableNo>
         ensures counted { Counted R.faults R.misses R.frame dev.old dev.new
             (IsErrOf result TableNo.ReadFault) }
         ensures told { R.told dev.new ≡ R.told dev.old }
-        // The views are read once.
+        // The views are read once: then the device isn't used, and only memory can be wanting.
         ensures alone { AreRead self.old.walks → dev.new ≡ dev.old }
+        ensures calm { AreRead self.old.walks → IfErr result (λ no. no ≡ TableNo.Memory) }
         ensures step { IsStep F.bytes steps.Next self.old self.new result }
     {
         self.go(Move::Next, dev)
@@ -104,8 +113,9 @@ impl<F: FileRef> Merged<F> {
         ensures counted { Counted R.faults R.misses R.frame dev.old dev.new
             (IsErrOf result TableNo.ReadFault) }
         ensures told { R.told dev.new ≡ R.told dev.old }
-        // The views are read once.
+        // The views are read once: then the device isn't used, and only memory can be wanting.
         ensures alone { AreRead self.old.walks → dev.new ≡ dev.old }
+        ensures calm { AreRead self.old.walks → IfErr result (λ no. no ≡ TableNo.Memory) }
         ensures step { IsStep F.bytes steps.Prev self.old self.new result }
     {
         self.go(Move::Prev, dev)
@@ -120,8 +130,9 @@ impl<F: FileRef> Merged<F> {
         ensures counted { Counted R.faults R.misses R.frame dev.old dev.new
             (IsErrOf result TableNo.ReadFault) }
         ensures told { R.told dev.new ≡ R.told dev.old }
-        // The views are read once.
+        // The views are read once: then the device isn't used, and only memory can be wanting.
         ensures alone { AreRead self.old.walks → dev.new ≡ dev.old }
+        ensures calm { AreRead self.old.walks → IfErr result (λ no. no ≡ TableNo.Memory) }
         ensures step { IsStep F.bytes (steps.Seek key.now) self.old self.new result }
     {
         self.go(Move::Ge(key), dev)
@@ -136,8 +147,9 @@ impl<F: FileRef> Merged<F> {
         ensures counted { Counted R.faults R.misses R.frame dev.old dev.new
             (IsErrOf result TableNo.ReadFault) }
         ensures told { R.told dev.new ≡ R.told dev.old }
-        // The views are read once.
+        // The views are read once: then the device isn't used, and only memory can be wanting.
         ensures alone { AreRead self.old.walks → dev.new ≡ dev.old }
+        ensures calm { AreRead self.old.walks → IfErr result (λ no. no ≡ TableNo.Memory) }
         ensures step { IsStep F.bytes (steps.SeekLt key.now) self.old self.new result }
     {
         self.go(Move::Lt(key), dev)
@@ -149,37 +161,24 @@ impl<F: FileRef> Merged<F> {
             (IsErrOf result TableNo.ReadFault) }
         ensures told { R.told dev.new ≡ R.told dev.old }
         ensures alone { AreRead self.old.walks → dev.new ≡ dev.old }
+        ensures calm { AreRead self.old.walks → IfErr result (λ no. no ≡ TableNo.Memory) }
         ensures step { IsStep F.bytes (step_of to.entry) self.old self.new result }
     {
         load_all(&mut self.sources, dev)?;
-        let (entry, place) = moved(
-            &self.mem,
-            &self.sources,
-            &self.bounds,
-            self.at,
-            &self.place,
-            to,
-        )?;
+        let (entry, place) = self.moved(to)?;
         self.place = place;
         Ok(entry)
     }
-}
 
-/// The entry of the pair that the move leads to, and the new place.
-fn moved<'a, F: FileRef>(
-    mem: &'a MemParts,
-    sources: &'a Vec<Source<F>>,
-    bounds: &'a KeyRange,
-    at: u64,
-    place: &'a Place,
-    to: Move<'a>,
-) -> Result<(Option<Entry>, Place), AllocError>
-    requires { AreRead sources.now.items }
-    ensures { IfOk result (λ l. IsLanded (layers mem.now sources.now.items) bounds.now at
-        place.now (step_of to.entry) l.0 l.1) }
-{
-    let layers = layers(mem, sources)?;
-    landed(&layers, bounds, at, place, to)
+    /// The entry of the pair that the move leads to, and the new place.
+    fn moved(&self, to: Move) -> Result<(Option<Entry>, Place), AllocError>
+        requires { AreRead self.now.walks }
+        ensures { IfOk result (λ l. IsLanded (layers self.now.mem self.now.walks) self.now.bounds
+            self.now.at self.now.place (step_of to.entry) l.0 l.1) }
+    {
+        let layers = layers(self.mem, &self.sources)?;
+        landed(&layers, &self.bounds, self.at, &self.place, to)
+    }
 }
 
 fn sources<F: FileRef>(alloc: Global, views: Vec<View<F>>) -> Result<Vec<Source<F>>, AllocError>

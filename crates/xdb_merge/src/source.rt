@@ -1,5 +1,5 @@
 //! A view that a merged cursor goes over.
-ghost use Rattle.std.specs.Prelude.{◌≡◌, true, [], ◌∷◌, IfOk, OnOk, OnErr, IfErr, IsErrOf};
+ghost use Rattle.std.specs.Prelude.{◌≡◌, true, [], ◌∷◌, IsOk, IfOk, OnOk, OnErr, IfErr, IsErrOf};
 ghost use Rattle.std.specs.List.{AllByRecursion};
 ghost use Rattle.xdb_device.specs.Counted.{Counted};
 ghost use Rattle.xdb_merge.specs.Steps.{ArePaired, AreRead, IsLater, IsLoaded, NamesDefect, views};
@@ -50,6 +50,7 @@ impl<F: FileRef> Source<F> {
             (IsErrOf result TableNo.ReadFault) }
         ensures told { R.told dev.new ≡ R.told dev.old }
         ensures alone { self.old.read ≡ true → dev.new ≡ dev.old }
+        ensures calm { self.old.read ≡ true → IsOk result }
         ensures later { IsLater F.bytes self.old self.new }
         ensures loaded { OnOk result (IsLoaded F.bytes self.new) }
         ensures defect { IfErr result (NamesDefect F.bytes (self.old.view ∷ [])) }
@@ -80,6 +81,7 @@ pub fn load_all<F: FileRef, R: Reader<File = F>>(
         (IsErrOf result TableNo.ReadFault) }
     ensures told { R.told dev.new ≡ R.told dev.old }
     ensures alone { AreRead sources.old.items → dev.new ≡ dev.old }
+    ensures calm { AreRead sources.old.items → IsOk result }
     ensures later { ArePaired (IsLater F.bytes) sources.old.items sources.new.items }
     ensures read { OnOk result (AreRead sources.new.items) }
     ensures loaded { OnOk result (AllByRecursion (IsLoaded F.bytes) sources.new.items) }

@@ -441,16 +441,20 @@ fn parts(alloc: Global, queue: &MemQueue) -> Result<MemParts, Fail> {
     Ok(queue.parts(&all, 1 << 40)?)
 }
 
-fn merged(alloc: Global, dev: &mut MemDevice, case: &Case) -> Result<Merged<MemFile>, Fail> {
+fn merged<'a>(
+    alloc: Global,
+    dev: &mut MemDevice,
+    mem: &'a MemParts,
+    case: &Case,
+) -> Result<Merged<'a, MemFile>, Fail> {
     let views = views(alloc, dev, case.tables)?;
-    let mem = mem(alloc, case)?;
     let bounds = range(alloc, case.lo, case.hi)?;
     Ok(Merged::new(mem, views, bounds, u64::from(case.at))?)
 }
 
 fn go(
     alloc: Global,
-    pairs: &mut Merged<MemFile>,
+    pairs: &mut Merged<'_, MemFile>,
     dev: &mut MemDevice,
     call: Call,
 ) -> Result<Result<Option<Entry>, TableNo>, Fail> {
@@ -475,7 +479,7 @@ fn shows(found: &Option<Entry>, row: Row) -> bool {
 
 fn answers(
     alloc: Global,
-    pairs: &mut Merged<MemFile>,
+    pairs: &mut Merged<'_, MemFile>,
     dev: &mut MemDevice,
     call: Call,
     row: Row,
@@ -487,7 +491,7 @@ fn answers(
 /// How many of the calls answer their rows, up to the first that doesn't.
 fn right_calls(
     alloc: Global,
-    pairs: &mut Merged<MemFile>,
+    pairs: &mut Merged<'_, MemFile>,
     dev: &mut MemDevice,
     calls: &[(Call, Row)],
 ) -> Result<usize, Fail> {
@@ -499,14 +503,24 @@ fn right_calls(
     Ok(calls.len())
 }
 
-fn right_on(alloc: Global, dev: &mut MemDevice, case: &Case) -> Result<usize, Fail> {
-    let mut pairs = merged(alloc, dev, case)?;
+fn right_on(
+    alloc: Global,
+    dev: &mut MemDevice,
+    mem: &MemParts,
+    case: &Case,
+) -> Result<usize, Fail> {
+    let mut pairs = merged(alloc, dev, mem, case)?;
     right_calls(alloc, &mut pairs, dev, case.calls)
 }
 
-fn right(alloc: Global, case: &Case) -> Result<usize, Fail> {
+fn right_over(alloc: Global, mem: &MemParts, case: &Case) -> Result<usize, Fail> {
     let mut dev = MemDevice::new(alloc, Vec::new(alloc));
-    right_on(alloc, &mut dev, case)
+    right_on(alloc, &mut dev, mem, case)
+}
+
+fn right(alloc: Global, case: &Case) -> Result<usize, Fail> {
+    let mem = mem(alloc, case)?;
+    right_over(alloc, &mem, case)
 }
 
 #[test]
@@ -528,30 +542,35 @@ fn stands_on(place: &Place, byte: u8) -> bool {
 /// Whether the pair before is the last one, and the cursor stands on it then.
 fn goes_to_the_last(
     alloc: Global,
-    pairs: &mut Merged<MemFile>,
+    pairs: &mut Merged<'_, MemFile>,
     dev: &mut MemDevice,
 ) -> Result<bool, Fail> {
     let last = answers(alloc, pairs, dev, Call::Prev, (b'd', 6, b'4'))?;
     Ok(last && stands_on(pairs.place(), b'd'))
 }
 
-fn begins_behind_on(alloc: Global, dev: &mut MemDevice) -> Result<bool, Fail> {
-    let mut pairs = merged(alloc, dev, &CASES[3])?.with_place(Place::After);
+fn begins_behind_on(alloc: Global, dev: &mut MemDevice, mem: &MemParts) -> Result<bool, Fail> {
+    let mut pairs = merged(alloc, dev, mem, &CASES[3])?.with_place(Place::After);
     goes_to_the_last(alloc, &mut pairs, dev)
+}
+
+fn begins_behind(alloc: Global, dev: &mut MemDevice) -> Result<bool, Fail> {
+    let mem = MemParts::empty(alloc)?;
+    begins_behind_on(alloc, dev, &mem)
 }
 
 #[test]
 fn a_cursor_that_begins_behind(rt: HostRuntime) -> Result<(), Fail> {
     let alloc = rt.alloc();
     let mut dev = MemDevice::new(alloc, Vec::new(alloc));
-    let goes = begins_behind_on(alloc, &mut dev)?;
+    let goes = begins_behind(alloc, &mut dev)?;
     assert!(rt; goes);
     Ok(())
 }
 
 fn fails(
     alloc: Global,
-    pairs: &mut Merged<MemFile>,
+    pairs: &mut Merged<'_, MemFile>,
     dev: &mut MemDevice,
     call: Call,
     no: TableNo,
@@ -564,7 +583,7 @@ fn fails(
 /// then on nothing is read.
 fn goes_on_after_a_fault(
     alloc: Global,
-    pairs: &mut Merged<MemFile>,
+    pairs: &mut Merged<'_, MemFile>,
     dev: &mut MemDevice,
 ) -> Result<bool, Fail> {
     let failed = fails(alloc, pairs, dev, Call::Lt(b'z'), TableNo::ReadFault)?;
@@ -578,9 +597,14 @@ fn goes_on_after_a_fault(
     )
 }
 
-fn two_go_on(alloc: Global, dev: &mut MemDevice) -> Result<bool, Fail> {
-    let mut pairs = merged(alloc, dev, &CASES[3])?;
+fn two_go_on_over(alloc: Global, dev: &mut MemDevice, mem: &MemParts) -> Result<bool, Fail> {
+    let mut pairs = merged(alloc, dev, mem, &CASES[3])?;
     goes_on_after_a_fault(alloc, &mut pairs, dev)
+}
+
+fn two_go_on(alloc: Global, dev: &mut MemDevice) -> Result<bool, Fail> {
+    let mem = MemParts::empty(alloc)?;
+    two_go_on_over(alloc, dev, &mem)
 }
 
 /// A file is made by one call, opened by three or two, and its points are read by one.
@@ -609,17 +633,29 @@ fn damaged_view(alloc: Global, dev: &mut MemDevice) -> Result<View<MemFile>, Fai
     Ok(View::new(opened, lo, hi, 0))
 }
 
-fn with_damaged(alloc: Global, dev: &mut MemDevice) -> Result<Merged<MemFile>, Fail> {
+fn with_damaged<'a>(
+    alloc: Global,
+    dev: &mut MemDevice,
+    mem: &'a MemParts,
+) -> Result<Merged<'a, MemFile>, Fail> {
     let mut views = views(alloc, dev, TWO)?;
     views.push(damaged_view(alloc, dev)?)?;
-    let mem = MemParts::empty(alloc)?;
     let bounds = range(alloc, 1, 255)?;
     Ok(Merged::new(mem, views, bounds, 100)?)
 }
 
 fn names_the_damaged(alloc: Global, dev: &mut MemDevice) -> Result<bool, Fail> {
+    let mem = MemParts::empty(alloc)?;
+    names_the_damaged_over(alloc, dev, &mem)
+}
+
+fn names_the_damaged_over(
+    alloc: Global,
+    dev: &mut MemDevice,
+    mem: &MemParts,
+) -> Result<bool, Fail> {
     let no = TableNo::Damaged { backing: 9, at: 0 };
-    let mut pairs = with_damaged(alloc, dev)?;
+    let mut pairs = with_damaged(alloc, dev, mem)?;
     Ok(
         fails(alloc, &mut pairs, dev, Call::Next, no)?
             && fails(alloc, &mut pairs, dev, Call::Prev, no)?,
@@ -656,13 +692,13 @@ fn one_table(alloc: Global, dev: &mut MemDevice) -> Result<Vec<(TableMeta, MemFi
     Ok(tables)
 }
 
-fn over_tables(
+fn over_tables<'a>(
     alloc: Global,
     dev: &mut MemDevice,
+    mem: &'a MemParts,
     tables: &[(TableMeta, MemFile)],
-) -> Result<Merged<MemFile>, Fail> {
+) -> Result<Merged<'a, MemFile>, Fail> {
     let views = open_views(alloc, tables, dev)?;
-    let mem = MemParts::empty(alloc)?;
     let bounds = range(alloc, 1, 255)?;
     Ok(Merged::new(mem, views, bounds, 100)?)
 }
@@ -672,11 +708,21 @@ fn table_is_walked(
     dev: &mut MemDevice,
     tables: &[(TableMeta, MemFile)],
 ) -> Result<usize, Fail> {
+    let mem = MemParts::empty(alloc)?;
+    table_is_walked_over(alloc, dev, &mem, tables)
+}
+
+fn table_is_walked_over(
+    alloc: Global,
+    dev: &mut MemDevice,
+    mem: &MemParts,
+    tables: &[(TableMeta, MemFile)],
+) -> Result<usize, Fail> {
     let calls = [
         (Call::Next, (b'b', 7, b'2')),
         (Call::Lt(b'z'), (b'e', 7, b'5')),
     ];
-    let mut pairs = over_tables(alloc, dev, tables)?;
+    let mut pairs = over_tables(alloc, dev, mem, tables)?;
     right_calls(alloc, &mut pairs, dev, &calls)
 }
 
@@ -725,9 +771,12 @@ fn long_views(alloc: Global, dev: &mut MemDevice) -> Result<Vec<View<MemFile>>, 
     Ok(views)
 }
 
-fn long(alloc: Global, dev: &mut MemDevice) -> Result<Merged<MemFile>, Fail> {
+fn long<'a>(
+    alloc: Global,
+    dev: &mut MemDevice,
+    mem: &'a MemParts,
+) -> Result<Merged<'a, MemFile>, Fail> {
     let views = long_views(alloc, dev)?;
-    let mem = MemParts::empty(alloc)?;
     let bounds = range(alloc, 0, 255)?;
     Ok(Merged::new(mem, views, bounds, 2)?)
 }
@@ -740,7 +789,7 @@ fn is_named(found: &Option<Entry>, name: u16) -> bool {
 }
 
 /// Whether the cursor goes over the 2,000 pairs to the end, and back to the start.
-fn goes_both_ways(pairs: &mut Merged<MemFile>, dev: &mut MemDevice) -> Result<bool, Fail> {
+fn goes_both_ways(pairs: &mut Merged<'_, MemFile>, dev: &mut MemDevice) -> Result<bool, Fail> {
     for name in 0..COUNT * 4 {
         if !is_named(&pairs.next(dev)?, name) {
             return Ok(false);
@@ -757,9 +806,18 @@ fn goes_both_ways(pairs: &mut Merged<MemFile>, dev: &mut MemDevice) -> Result<bo
     Ok(shows(&pairs.prev(dev)?, END))
 }
 
-fn long_goes_both_ways(alloc: Global, dev: &mut MemDevice) -> Result<bool, Fail> {
-    let mut pairs = long(alloc, dev)?;
+fn long_goes_both_ways_over(
+    alloc: Global,
+    dev: &mut MemDevice,
+    mem: &MemParts,
+) -> Result<bool, Fail> {
+    let mut pairs = long(alloc, dev, mem)?;
     goes_both_ways(&mut pairs, dev)
+}
+
+fn long_goes_both_ways(alloc: Global, dev: &mut MemDevice) -> Result<bool, Fail> {
+    let mem = MemParts::empty(alloc)?;
+    long_goes_both_ways_over(alloc, dev, &mem)
 }
 
 #[test]

@@ -1,4 +1,6 @@
 -- The laws, by topic.
-mod DecidingLaws
-mod ListedLaws
-mod PlaceLaws
+mod WayLaws
+mod KeyLaws
+mod FaultLaws
+mod CursorLaws
+mod OnWayLaws

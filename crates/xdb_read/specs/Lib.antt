@@ -1,3 +1,4 @@
 -- What answers the parts of a question.
 pub mod Fits
-pub mod Shown
+pub mod Asked
+pub mod Pairs

@@ -2,9 +2,9 @@
 #![tactic(auto)]
 
 mod answering;
-mod moves;
+mod keys;
+mod pairs;
 mod parts;
-mod sight;
 
 pub use answering::answer;
 pub use parts::{ReadDone, ReadParts, ReadWork};

@@ -2,6 +2,7 @@ use std::marker::PhantomData;
 use xdb_device::FileRef;
 use xdb_key::KeyRange;
 use xdb_mem::MemParts;
+use xdb_meta::TableMeta;
 use xdb_order::Work;
 use xdb_plain::{Answer, Items, Place, Question};
 
@@ -17,8 +18,8 @@ pub struct ReadParts<F> {
     pub at: u64,
     /// What the memtables have inside the bounds.
     pub mem: MemParts,
-    /// The files of tables that meet the bounds. No table is built yet, so there are none.
-    pub tables: Items<F>,
+    /// The tables that may have keys inside the bounds, and the files that they are in.
+    pub tables: Items<(TableMeta, F)>,
 }
 
 /// What comes of it.
@@ -43,5 +44,5 @@ impl<F: FileRef> Work for ReadWork<F> {
 
     type Out = ReadDone;
 
-    ghost fits = { λ given out. ReadFits given out };
+    ghost fits = { λ given out. ReadFits F.bytes given out };
 }

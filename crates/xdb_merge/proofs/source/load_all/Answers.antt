@@ -4,7 +4,7 @@ use Rattle.std.proofs.lemmas.List.{length-set}
 use Rattle.std.specs.List.{AllByRecursion}
 use Rattle.xdb_device.proofs.Counts.{Counted-refl, Counted-then, Counted-where}
 use Rattle.xdb_merge.specs.Steps.{ArePaired, AreRead, IsLater, IsLoaded, views}
-use Rattle.xdb_merge.proofs.LoadLaws.{written, no_fault, loads_length, loads_start, loads_later, loads_more, read_at, loads_all, loaded_read, loads_defect, passed_defect}
+use Rattle.xdb_merge.proofs.LoadLaws.{written, no_fault, loads_length, loads_start, loads_later, loads_more, read_at, loads_all, loaded_read, loads_defect, passed_defect, never_err}
 use Rattle.xdb_merge.proofs.source.load_all.Goals as goal
 
 pub loop-source-init : goal.loop-source-init
@@ -63,3 +63,8 @@ returns-clause-loaded g c =
     let old = c.args.sources.now in
     subst (AllByRecursion (IsLoaded g.F.FileRef.bytes)) (sym (written old.len c.loop-source.source-items old.items old.ok.0 (loads_length g.F.FileRef.bytes old.items c.loop-source.source-items c.loop-source.source-index c.loop-source.invariant.3)))
     (loads_all g.F.FileRef.bytes old.items c.loop-source.source-items c.loop-source.source-index c.loop-source.invariant.3 (omega arith))
+
+pub returns-in_err-load-clause-calm : goal.returns-in_err-load-clause-calm
+returns-in_err-load-clause-calm g c = λ read.
+    never_err c.load.result c.in_err-load.field-0.0 c.from_residual.result c.in_err-load.was
+    (c.load.ensures.calm (read_at g.F.FileRef.bytes c.args.sources.now.items c.loop-source.source-items c.loop-source.source-index c.source-item.result c.loop-source.invariant.3 (omega arith) read))
