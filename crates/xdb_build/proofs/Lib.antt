@@ -1,0 +1,12 @@
+pub mod RowLaws
+pub mod FileLaws
+pub mod ReachLaws
+pub mod StayLaws
+pub mod FlushLaws
+pub mod CutLaws
+pub mod SeriesLaws
+pub mod TryLaws
+pub mod StepLaws
+pub mod WayLaws
+pub mod ShownLaws
+pub mod GatherLaws

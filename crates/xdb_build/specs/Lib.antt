@@ -1,0 +1,7 @@
+pub mod Given
+pub mod Gathered
+pub mod Gathering
+pub mod Outputs
+pub mod Cuts
+pub mod Fits
+pub mod Series
