@@ -62,7 +62,7 @@ module _ (c : Core) (p : Plain) (by : By) (question : Question) (parted : Bool) 
   room : (full : Bool) → leb 64 (length c.asks) ≡ full → room_replies p ≡ cond full (TooMany ∷ []) (Memory ∷ Asked (p.asked + 1) ∷ [])
   room full e = ap (λ n. cond (leb 64 n) (TooMany ∷ []) (Memory ∷ Asked (p.asked + 1) ∷ [])) (count-is c p a) ∙ ap (λ t. cond t (TooMany ∷ []) (Memory ∷ Asked (p.asked + 1) ∷ [])) e
 
-  none-zero : found_question 0 c.asks ≡ None
+  pub none-zero : found_question 0 c.asks ≡ None
   none-zero = none-at c p a 0 (λ q n e. let from = n.from in omega arith)
 
   none-next : found_question (c.numbers.asked + 1) c.asks ≡ None
@@ -83,35 +83,35 @@ module _ (c : Core) (p : Plain) (by : By) (question : Question) (parted : Bool) 
   }
 
   -- a question that isn't opened leaves the state: none has the number 0
-  refused : (reply : Reply) → is_refused p (act.Ask 0 question parted) (outcome reply) ≡ true → MayStand p (note 0 reply) → AnswersRight p (act.Ask 0 question parted) reply → is_failure_outside reply ≡ false → Step c c p (note 0 reply)
+  refused : {told : Type 0} (reply : Reply) → is_refused p (act.Ask 0 question parted) (outcome reply) ≡ true → MayStand p (note 0 reply) → AnswersRight p (act.Ask 0 question parted) reply → is_failure_outside reply ≡ false → Step told 0 c c p (note 0 reply)
   refused reply is may answers calm = still c p (note 0 reply) a may answers calm (refused-after p (note 0 reply) may refl is)
 
-  pub no_such : is_of_now question ≡ false → Step c c p (note 0 NoSuch)
+  pub no_such : {told : Type 0} → is_of_now question ≡ false → Step told 0 c c p (note 0 NoSuch)
   no_such then = refused NoSuch refl (stands 0 NoSuch none-zero refl (ap (list_any (same_reply NoSuch)) (replies-then c p a question then)) tt refl refl) tt refl
 
-  pub too_many : is_of_now question ≡ true → 64 ≤ length c.asks → Step c c p (note 0 TooMany)
+  pub too_many : {told : Type 0} → is_of_now question ≡ true → 64 ≤ length c.asks → Step told 0 c c p (note 0 TooMany)
   too_many now many = refused TooMany refl (stands 0 TooMany none-zero refl (ap (list_any (same_reply TooMany)) (replies-now p question now ∙ room true (le-leb 64 (length c.asks) many))) tt refl refl) tt refl
 
-  pub lacking : is_of_now question ≡ true → length c.asks < 64 → Step c c p (note 0 Memory)
+  pub lacking : {told : Type 0} → is_of_now question ≡ true → length c.asks < 64 → Step told 0 c c p (note 0 Memory)
   lacking now few =
       refused Memory (ap is_none (plain-none c p a 0 none-zero))
       (stands 0 Memory none-zero refl (ap (list_any (same_reply Memory)) (replies-now p question now ∙ room false (lt-leb 64 (length c.asks) few))) tt refl refl) tt refl
 
-module _ (c : Core) (p : Plain) (by : By) (question : Question) (parted : Bool) (l : Landing) (a : Agrees c p) (client : IsTrue (is_client by)) (now : is_of_now question ≡ true) (few : length c.asks < 64) (right : Means c p → l ≡ answer_now p question) where
+module _ {told : Type 0} (c : Core) (p : Plain) (by : By) (question : Question) (parted : Bool) (l : Landing) (a : Agrees c p) (client : IsTrue (is_client by)) (now : is_of_now question ≡ true) (few : length c.asks < 64) (right : told → Means c p → l ≡ answer_now p question) where
   abbrev next : ℕ
   next = c.numbers.asked + 1
 
   abbrev more : OpenQuestion
   more = open_question next by question parted l
 
-  pub opened : Step c (asked_core c by question parted l) p (plain_note by (act.Ask next question parted) (Asked next))
+  pub opened : Step told 0 c (asked_core c by question parted l) p (plain_note by (act.Ask next question parted) (Asked next))
   opened = record {
     stands = stands c p by question parted a client next (Asked next) (none-next c p by question parted a client) refl
         (ap (list_any (same_reply (Asked next))) (replies-now p question now ∙ room c p by question parted a client false (lt-leb 64 (length c.asks) few)) ∙ asked-listed next (p.asked + 1) (ap (λ n. n + 1) (sym a.numbers.asked)))
         tt refl refl;
     agrees = record {
       mem = a.mem;
-      numbers = record { next = a.numbers.next; file = a.numbers.file; asked = ap (λ n. n + 1) a.numbers.asked; upto = a.numbers.upto };
+      numbers = record { next = a.numbers.next; file = a.numbers.file; asked = ap (λ n. n + 1) a.numbers.asked; started = a.numbers.started; upto = a.numbers.upto; files_upto = a.numbers.files_upto };
       asks = record {
         same = map-append unanswered c.asks (more ∷ []) ∙ (λ i. a.asks.same i ++ unanswered more ∷ []) ∙ sym (map-append unanswered p.questions (new_question p by next question parted ∷ []));
         numbered = All-push (IsNumbered next) c.asks more
@@ -119,12 +119,15 @@ module _ (c : Core) (p : Plain) (by : By) (question : Question) (parted : Bool) 
             (record { from = omega arith; given = omega arith; client = client });
       };
       files = a.files;
+      jobs = a.jobs;
       snaps = a.snaps;
       cursors = a.cursors;
-      jobs = a.jobs;
       loads = a.loads;
+      owned = a.owned;
+      under_way = a.under_way;
     };
-    answers = λ m. tt;
-    means = λ m. record { image = m.image; asks = λ i. m.asks i ++ open_question next by question parted (right m i) ∷ [] };
-    calm = refl;
+    answers = λ t m. tt;
+    means = λ t m. record { image = m.image; order = m.order; numbers = m.numbers; tables = m.tables; striped = m.striped; asks = λ i. m.asks i ++ open_question next by question parted (right t m i) ∷ [] };
+    booked = refl;
+    undamaged = λ t. refl;
   }

@@ -36,7 +36,7 @@ cursors-left (Some q) cursors a = record { none = ap (λ cs. settled (Some q) cs
 -- ---- a settle
 
 module _ (c : Core) (p : Plain) (by : By) (ask : ℕ) (a : Agrees c p) (client : IsTrue (is_client by)) where
-  pub none : found_question ask c.asks ≡ None → Step c c p (plain_note by (act.Settle ask) NoSuch)
+  pub none : {told : Type 0} → found_question ask c.asks ≡ None → Step told 0 c c p (plain_note by (act.Settle ask) NoSuch)
   none there =
       still c p (plain_note by (act.Settle ask) NoSuch) a
       (record { by = client; reply = ap (λ o. list_any (same_reply NoSuch) (settle_replies o)) (plain-none c p a ask there); act = tt; edit = refl; tried = refl; shown = tt }) tt refl refl
@@ -48,16 +48,16 @@ module _ (c : Core) (p : Plain) (by : By) (ask : ℕ) (a : Agrees c p) (client :
     parted-is : plain.told.parted ≡ q.parted
     parted-is = ap (λ x. x.parted) plain.same
 
-    pub early : Step c c p (plain_note by (act.Settle ask) NotYet)
+    pub early : {told : Type 0} → Step told 0 c c p (plain_note by (act.Settle ask) NotYet)
     early =
         still c p (plain_note by (act.Settle ask) NotYet) a
         (record { by = client; reply = ap (λ o. list_any (same_reply NotYet) (settle_replies o)) plain.there; act = tt; edit = refl; tried = refl; shown = tt }) tt refl refl
 
-    module _ (answer : Answer) (right : Means c p → q.answer ≡ answer) where
-      kept : Means c p → option_map (λ x. x.answer) (found_question ask p.questions) ≡ Some answer
-      kept m = ap (λ qs. option_map (λ x. x.answer) (found_question ask qs)) (sym m.asks) ∙ ap (option_map (λ x. x.answer)) there ∙ ap Some (right m)
+    module _ {told : Type 0} (answer : Answer) (right : told → Means c p → q.answer ≡ answer) where
+      kept : told → Means c p → option_map (λ x. x.answer) (found_question ask p.questions) ≡ Some answer
+      kept t m = ap (λ qs. option_map (λ x. x.answer) (found_question ask qs)) (sym m.asks) ∙ ap (option_map (λ x. x.answer)) there ∙ ap Some (right t m)
 
-      pub in_parts : q.parted ≡ true → Step c (ended_core c ask) p (plain_note by (act.Settle ask) (Answered answer))
+      pub in_parts : q.parted ≡ true → Step told 0 c (ended_core c ask) p (plain_note by (act.Settle ask) (Answered answer))
       in_parts parted = record {
         stands = record {
           by = client;
@@ -73,17 +73,20 @@ module _ (c : Core) (p : Plain) (by : By) (ask : ℕ) (a : Agrees c p) (client :
           numbers = a.numbers;
           asks = asks-left c.numbers.asked ask c.asks p.questions a.asks;
           files = a.files;
+          jobs = a.jobs;
           snaps = a.snaps;
           cursors = cursors-left (found_question ask p.questions) p.cursors a.cursors;
-          jobs = a.jobs;
           loads = a.loads;
+          owned = a.owned;
+          under_way = a.under_way;
         };
         answers = kept;
-        means = λ m. record { image = m.image; asks = ap (without_question ask) m.asks };
-        calm = refl;
+        means = λ t m. record { image = m.image; order = m.order; numbers = m.numbers; tables = m.tables; striped = m.striped; asks = ap (without_question ask) m.asks };
+        booked = refl;
+        undamaged = λ t. refl;
       }
 
-      pub whole : q.parted ≡ false → Step c (ended_core c ask) p (plain_note by (act.Ask ask q.question false) (Answered answer))
+      pub whole : q.parted ≡ false → Step told 0 c (ended_core c ask) p (plain_note by (act.Ask ask q.question false) (Answered answer))
       whole parted = record {
         stands = record {
           by = client;
@@ -100,12 +103,15 @@ module _ (c : Core) (p : Plain) (by : By) (ask : ℕ) (a : Agrees c p) (client :
           numbers = a.numbers;
           asks = asks-left c.numbers.asked ask c.asks p.questions a.asks;
           files = a.files;
+          jobs = a.jobs;
           snaps = a.snaps;
           cursors = cursors-left (found_question ask p.questions) p.cursors a.cursors;
-          jobs = a.jobs;
           loads = a.loads;
+          owned = a.owned;
+          under_way = a.under_way;
         };
         answers = kept;
-        means = λ m. record { image = m.image; asks = ap (without_question ask) m.asks };
-        calm = refl;
+        means = λ t m. record { image = m.image; order = m.order; numbers = m.numbers; tables = m.tables; striped = m.striped; asks = ap (without_question ask) m.asks };
+        booked = refl;
+        undamaged = λ t. refl;
       }

@@ -3,4 +3,6 @@
 pub mod Mem
 pub mod Numbers
 pub mod Asks
+pub mod Files
+pub mod Jobs
 pub mod Unbuilt

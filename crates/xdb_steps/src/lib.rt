@@ -3,3 +3,9 @@
 
 pub mod asks;
 pub mod commits;
+pub mod counts;
+pub mod flushes;
+pub mod holds;
+pub mod openings;
+pub mod removals;
+pub mod story;

@@ -2,10 +2,7 @@
 use Rattle.std.specs.Prelude.{◌≡◌, ℕ, ◌<◌, List}
 use Rattle.xdb_key.specs.Groups.{Group}
 use Rattle.xdb_mem.specs.Numbered.{RisesWithin}
-use Rattle.xdb_mem.specs.Parts.{items}
 use Rattle.xdb_mem.specs.Queue.{Queue, groups, all_ops}
-use Rattle.xdb_plain.specs.PlainMap.{PlainMap}
-use Rattle.xdb_rangedel.specs.Content.{IsImage}
 
 -- The groups are the plain ones, and the numbers of all operations rise below the next one.
 pub record MemAgrees (mem : Queue) (next : ℕ) (groups_sealed : List Group) (group_active : Group) : Type 0 where
@@ -13,7 +10,3 @@ pub record MemAgrees (mem : Queue) (next : ℕ) (groups_sealed : List Group) (gr
   pub active : group_active ≡ mem.active
   pub rising : RisesWithin 1 next (all_ops (groups mem))
   pub above : mem.greatest < next
-
--- the image of the memtables at the next number is the map
-abbrev pub ImageIs : Queue → ℕ → PlainMap → Type 0
-ImageIs mem next m = IsImage (items (all_ops (groups mem))) next m
