@@ -14,7 +14,7 @@ use Rattle.xdb_rangedel.specs.Content.{in_pieces}
 use Rattle.xdb_rangedel.specs.Members.{SameMembers}
 use Rattle.xdb_rangedel.specs.Pieces.{pieces}
 use Rattle.xdb_rangedel.specs.View.{restricted}
-use Rattle.xdb_read.specs.Fits.{content}
+use Rattle.xdb_read.specs.Fits.{mem_content}
 use Rattle.xdb_read.specs.declared.parts.ReadParts.{ReadParts}
 use Rattle.xdb_plain.specs.State.{groups as plain_groups}
 use Rattle.xdb_engine.specs.Questions.{Asking, asking}
@@ -47,7 +47,7 @@ module _ {F : Type 0} where
     pub at : parts.at ≡ next
     pub entries : SameMembers parts.mem.entries (picked parts.bounds next (all_ops groups))
     pub spans : SameMembers parts.mem.spans (pieces (clipped parts.bounds next (all_ops groups)))
-    pub same_content : SameMembers (content parts) (in_pieces (restricted parts.bounds (items_below next (all_ops groups))))
+    pub same_content : SameMembers (mem_content parts) (in_pieces (restricted parts.bounds (items_below next (all_ops groups))))
     pub tables : parts.tables ≡ []
 
   -- The question is opened behind the others, with the next number.

@@ -1,14 +1,17 @@
 -- Open questions as an engine keeps them, the one that was asked first in front.
-use Rattle.std.specs.Prelude.{◌≡◌, ℕ, ◌<◌, ◌≤◌, Bool, true, false, not, All, List, length, map, filter, Option, Some, None, ◌==◌, is_some, IfSome, if◌then◌else◌}
+use Rattle.std.specs.Prelude.{◌≡◌, ℕ, ◌<◌, ◌≤◌, Bool, true, false, not, All, List, [], length, map, filter, Option, Some, None, ◌==◌, is_some, IfSome, if◌then◌else◌}
 use Rattle.std.specs.List.{find, HoldsAt}
 use Rattle.std.specs.Option.{option_map}
 use Rattle.xdb_lists.specs.Keyed.{IsRising}
+use Rattle.xdb_laws.specs.Answered.{answered}
+use Rattle.xdb_laws.specs.Image.{image, inside}
 use Rattle.xdb_order.specs.Desk.{Looks}
 use Rattle.xdb_order.specs.declared.story.Story.{Story}
+use Rattle.xdb_plain.specs.Answers.{Landing}
 use Rattle.xdb_plain.specs.State.{OpenQuestion}
 use Rattle.xdb_plain.specs.declared.act.By.{By}
 use Rattle.xdb_rangedel.specs.Content.{IsClear}
-use Rattle.xdb_read.specs.Fits.{content, meant, ReadFits}
+use Rattle.xdb_read.specs.Fits.{mem_content, ReadFits}
 use Rattle.xdb_read.specs.declared.parts.ReadDone.{ReadDone}
 use Rattle.xdb_read.specs.declared.parts.ReadParts.{ReadParts}
 use Rattle.xdb_steps.specs.Parts.Asks.{IsNumbered}
@@ -65,6 +68,10 @@ module _ {F : Type 0} where
   IsPlaceOf ask questions None = question_of ask questions ≡ None
   IsPlaceOf ask questions (Some at) = (at < length questions) × HoldsAt (λ q. q.ask ≡ ask) questions at
 
+  -- what parts without tables mean: no tables are handed out yet
+  abbrev pub mem_meant : ReadParts F → Landing
+  mem_meant parts = answered (inside parts.bounds (image (mem_content parts) parts.at)) parts.bounds parts.place parts.question
+
   -- the plain model's question, by what its parts mean
   abbrev pub plain_question : Asking F → OpenQuestion
   plain_question q = record {
@@ -72,8 +79,8 @@ module _ {F : Type 0} where
     by = q.by;
     question = q.given.question;
     parted = q.parted;
-    answer = (meant q.given).answer;
-    place = (meant q.given).place;
+    answer = (mem_meant q.given).answer;
+    place = (mem_meant q.given).place;
   }
 
   -- it has a number that was given, and was asked by a client
@@ -85,22 +92,29 @@ module _ {F : Type 0} where
   is_kept None = false
   is_kept (Some q) = is_some q.kept
 
-  -- what is kept fits what was handed out
-  abbrev pub FitsGiven : Asking F → Type 0
-  FitsGiven q = IfSome q.kept (ReadFits q.given)
-
-  -- What holds of the open questions at any time: at most 64 are open, in the order of their numbers. What each was
-  -- handed is clear: two entries of one key with one number say the same.
-  pub record AreAsks (questions : List (Asking F)) : Type 0 where
-    pub few : length questions ≤ 64
-    pub rising : IsRising (λ q. q.ask) questions
-    pub clear : All (λ q. IsClear (content q.given)) questions
-    pub fits : All FitsGiven questions
+  -- no tables were handed out
+  abbrev pub IsBare : Asking F → Type 0
+  IsBare q = q.given.tables ≡ []
 
   -- Where a result is kept nothing changes, and else it is one look at the desk.
   abbrev pub LooksUnlessKept : Option ReadDone → Asking F → Asking F → Type 0
   LooksUnlessKept (Some done) old new = new ≡ old
   LooksUnlessKept None old new = Looks old.story (is_some new.kept) new.story
+
+-- `bytes` is what files tell
+module _ {F : Type 0} (bytes : F → Option (List ℕ)) where
+  -- what is kept fits what was handed out
+  abbrev pub FitsGiven : Asking F → Type 0
+  FitsGiven q = IfSome q.kept (ReadFits bytes q.given)
+
+  -- What holds of the open questions at any time: at most 64 are open, in the order of their numbers. What each was
+  -- handed has no tables and is clear: two entries of one key with one number say the same.
+  pub record AreAsks (questions : List (Asking F)) : Type 0 where
+    pub few : length questions ≤ 64
+    pub rising : IsRising (λ q. q.ask) questions
+    pub bare : All IsBare questions
+    pub clear : All (λ q. IsClear (mem_content q.given)) questions
+    pub fits : All FitsGiven questions
 
   -- One look at the desk: what it finds is kept, and fits.
   pub record IsLook (q : Asking F) (old new : List (Asking F)) (is_there : Bool) : Type 0 where
@@ -109,7 +123,7 @@ module _ {F : Type 0} where
     pub leaves : new ≡ put (with_story q story kept) old
     pub look : Looks q.story (is_some kept) story
     pub tells : is_there ≡ is_some kept
-    pub fits : IfSome kept (ReadFits q.given)
+    pub fits : IfSome kept (ReadFits bytes q.given)
 
   -- a look for the result, where none is kept
   abbrev pub LooksAt : Option ReadDone → Asking F → List (Asking F) → List (Asking F) → Bool → Type 0

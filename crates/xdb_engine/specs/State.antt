@@ -1,5 +1,5 @@
 -- The parts of an engine beside its history, how they step, and what every engine keeps.
-use Rattle.std.specs.Prelude.{◌≡◌, ℕ, false, map, IsTrue}
+use Rattle.std.specs.Prelude.{◌≡◌, ℕ, false, [], map, IsTrue}
 use Rattle.xdb_history.specs.Recorded.{Recorded, state_of}
 use Rattle.xdb_plain.specs.Failures.{faults, has_damage}
 use Rattle.xdb_plain.specs.Legal.{Right}
@@ -7,20 +7,21 @@ use Rattle.xdb_plain.specs.State.{Plain, opening}
 use Rattle.xdb_plain.specs.Steps.{is_client}
 use Rattle.xdb_plain.specs.declared.act.By.{By}
 use Rattle.xdb_plain.specs.declared.note.Note.{Note}
-use Rattle.xdb_steps.specs.Core.{Core, core}
+use Rattle.xdb_steps.specs.Core.{Core, core, numbers, no_files}
 use Rattle.xdb_steps.specs.Keeps.{Agrees, Means}
 use Rattle.xdb_steps.specs.Step.{Step}
 use Rattle.xdb_engine.specs.Questions.{plain_question}
 use Rattle.xdb_engine.specs.declared.state.State.{State}
 
 module _ {F : Type 0} where
-  -- as plain data: each open question by what its parts mean
+  -- as plain data: each open question by what its parts mean; no job was started, and there are no files
   abbrev pub core_of : State F → Core
-  core_of s = core s.mem (record { next = s.numbers.next; file = s.numbers.file; asked = s.numbers.asked }) (map plain_question s.asks)
+  core_of s = core s.mem (numbers s.numbers.next s.numbers.file s.numbers.asked 0) (map plain_question s.asks) no_files []
 
-  -- Wherever the parts agreed with the plain state, the note is a step of both.
+  -- Wherever the parts agreed with the plain state, the note is a step of both, whether files tell their bytes or not.
+  -- It books no fault.
   abbrev pub Steps : State F → State F → Note → Type 0
-  Steps old new note = (p : Plain) → Agrees (core_of old) p → Step (core_of old) (core_of new) p note
+  Steps old new note = (p : Plain) → Agrees (core_of old) p → Step (Unit {0}) 0 (core_of old) (core_of new) p note
 
   -- the same where it is a client who steps
   abbrev pub ClientSteps : By → State F → State F → Note → Type 0

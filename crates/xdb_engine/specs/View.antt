@@ -60,8 +60,8 @@ lent_parts None = None
 lent_parts (Some (given.Read parts)) = Some parts.now
 
 -- what came of work under way fits the question
-abbrev pub FitsQuestion : {F : Type 0} → Asking F → Outcome → Type 0
-FitsQuestion q (outcome.Read done) = ReadFits q.given done
+abbrev pub FitsQuestion : {F : Type 0} → (F → Option (List ℕ)) → Asking F → Outcome → Type 0
+FitsQuestion bytes q (outcome.Read done) = ReadFits bytes q.given done
 
 -- a result is kept with the question
 abbrev pub IsBrought : {F : Type 0} → Asking F → Outcome → EngineView F → EngineView F → Type 0

@@ -4,8 +4,8 @@ ghost use Rattle.std.specs.Option.{option_copied};
 ghost use Rattle.xdb_lists.specs.Keyed.{IsRising};
 ghost use Rattle.xdb_plain.specs.declared.act.Act.TheVariants as act;
 ghost use Rattle.xdb_rangedel.specs.Content.{IsClear};
-ghost use Rattle.xdb_read.specs.Fits.{content, ReadFits};
-ghost use Rattle.xdb_engine.specs.Questions.{AreAsks, FitsGiven, IsPlaceOf, LooksFor, plain_question, question_of, with_result};
+ghost use Rattle.xdb_read.specs.Fits.{mem_content, ReadFits};
+ghost use Rattle.xdb_engine.specs.Questions.{AreAsks, FitsGiven, IsBare, IsPlaceOf, LooksFor, plain_question, question_of, with_result};
 ghost use Rattle.xdb_engine.specs.Ends.{IsSettled, failure, failure_leaves};
 
 use crate::OpenRead;
@@ -19,7 +19,8 @@ use xdb_read::ReadDone;
 /// As many questions may be open.
 pub const MOST_QUESTIONS: usize = 64;
 
-/// The open questions. What each was handed is clear, and what is kept for one fits that.
+/// The open questions. What each was handed has no tables and is clear, and what is kept for one fits
+/// that.
 #[derive(Drop)]
 pub struct Asks<F: FileRef> {
     questions: Vec<OpenRead<F>>,
@@ -33,7 +34,7 @@ impl<F: FileRef> Model for Asks<F> {
 
     ghost view = { λ a. a.questions.items };
 
-    ghost invariant = { λ a. AreAsks a.questions.items };
+    ghost invariant = { λ a. AreAsks F.bytes a.questions.items };
 }
 
 impl<F: FileRef> Asks<F> {
@@ -49,14 +50,15 @@ impl<F: FileRef> Asks<F> {
     pub fn len(&self) -> usize
         ensures len { result ≡ length self.now }
         // What holds of the open questions at any time.
-        ensures asks { AreAsks self.now }
+        ensures asks { AreAsks F.bytes self.now }
     {
         self.questions.len()
     }
 
     /// The question of the number.
     pub fn find(&self, ask: u64) -> Option<&OpenRead<F>>
-        ensures { option_copied result ≡ question_of ask self.now }
+        ensures found { option_copied result ≡ question_of ask self.now }
+        ensures asks { AreAsks F.bytes self.now }
     {
         let at = place(&self.questions, ask)?;
         Some(&self.questions[at])
@@ -66,8 +68,9 @@ impl<F: FileRef> Asks<F> {
     pub fn push(&mut self, question: OpenRead<F>) -> Result<(), AllocError>
         requires few { length self.old < 64 }
         requires last { All (λ q. q.ask < question.ask) self.old }
-        requires clear { IsClear (content question.given) }
-        requires fits { FitsGiven question }
+        requires bare { IsBare question }
+        requires clear { IsClear (mem_content question.given) }
+        requires fits { FitsGiven F.bytes question }
         ensures opened { OnOk result (self.new ≡ self.old ++ question ∷ []) }
         ensures unchanged { OnErr result (self.new ≡ self.old) }
     {
@@ -80,7 +83,7 @@ impl<F: FileRef> Asks<F> {
     pub fn settle(&mut self, ask: u64) -> Settled
         ensures settled { IsSettled ask (question_of ask self.old) self.old self.new result }
         // So that the caller has it of what was kept.
-        ensures asks { AreAsks self.old }
+        ensures asks { AreAsks F.bytes self.old }
     {
         let Some(at) = place(&self.questions, ask) else {
             return early(ask, Reply::NoSuch, Reply::NoSuch);
@@ -105,7 +108,7 @@ impl<F: FileRef> Asks<F> {
 
     /// Looks for the result of the question where none is kept, and answers whether one is kept then.
     pub fn look(&mut self, ask: u64) -> bool
-        ensures looks { LooksFor (question_of ask self.old) self.old self.new result }
+        ensures looks { LooksFor F.bytes (question_of ask self.old) self.old self.new result }
         ensures same { map plain_question self.new ≡ map plain_question self.old }
     {
         let Some(at) = place(&self.questions, ask) else {
@@ -118,7 +121,7 @@ impl<F: FileRef> Asks<F> {
     /// Keeps the result of the question.
     pub fn bring(&mut self, ask: u64, done: ReadDone)
         requires there { IsSome (question_of ask self.old) }
-        requires fits { IfSome (question_of ask self.old) (λ q. ReadFits q.given done) }
+        requires fits { IfSome (question_of ask self.old) (λ q. ReadFits F.bytes q.given done) }
         ensures placed { IfSome (question_of ask self.old) (λ q. self.new ≡ with_result q done self.old) }
         ensures same { map plain_question self.new ≡ map plain_question self.old }
     {

@@ -89,7 +89,7 @@ impl<F: FileRef, L: Ledger> Engine<F, L> {
         // Each has a number that was given, and was asked by a client.
         ensures numbered { All (HasNumber (plain_of self.now).asked) self.now.questions }
         // What is kept for one fits what was handed out for it.
-        ensures fits { All FitsGiven self.now.questions }
+        ensures fits { All (FitsGiven F.bytes) self.now.questions }
         // The book is the number of failures of devices that the notes tell.
         ensures book { self.now.book ≡ faults self.now.notes }
         ensures undamaged { AreTold F.bytes → has_damage self.now.notes ≡ false }

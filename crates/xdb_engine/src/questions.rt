@@ -76,7 +76,7 @@ impl<F: FileRef> OpenRead<F> {
     /// Whether its result is kept.
     pub fn is_kept(&self) -> bool
         ensures kept { result ≡ is_some self.now.kept }
-        ensures fits { FitsGiven self.now }
+        ensures fits { FitsGiven F.bytes self.now }
     {
         self.work.is_kept()
     }
@@ -86,17 +86,17 @@ impl<F: FileRef> OpenRead<F> {
         ensures same { self.new ≡ with_story self.old self.new.story self.new.kept }
         ensures look { LooksUnlessKept self.old.kept self.old self.new }
         ensures tells { result ≡ is_some self.new.kept }
-        ensures fits { FitsGiven self.new }
+        ensures fits { FitsGiven F.bytes self.new }
     {
         self.work.arrived()
     }
 
     /// Keeps a result.
     pub fn bring(&mut self, done: ReadDone)
-        requires { ReadFits self.old.given done }
+        requires { ReadFits F.bytes self.old.given done }
         ensures kept { self.new ≡ with_story self.old self.old.story (Some done) }
         ensures same { self.new ≡ with_story self.old self.new.story self.new.kept }
-        ensures fits { FitsGiven self.new }
+        ensures fits { FitsGiven F.bytes self.new }
     {
         self.work.bring(done);
     }

@@ -8,7 +8,7 @@ use std::marker::Brand;
 use std::sync::ledger::{Blank, Ledger};
 use std::test::Fail;
 use xdb_batch::Batch;
-use xdb_device::{FaultBook, MemFile};
+use xdb_device::{FaultBook, MemDevice, MemFile};
 use xdb_key::Key;
 use xdb_order::Hand;
 use xdb_plain::{Act, Answer, CommitForm, Question, Reply};
@@ -102,7 +102,8 @@ fn ask<L: Ledger>(
 }
 
 fn deliver(alloc: Global, hand: Hand<ReadWork<MemFile>>) -> Result<(), Fail> {
-    let done = answer(alloc, hand.given())?;
+    let mut dev = MemDevice::new(alloc, Vec::new(alloc));
+    let done = answer(alloc, hand.given(), &mut dev)?;
     hand.deliver(done);
     Ok(())
 }

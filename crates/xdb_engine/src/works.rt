@@ -1,8 +1,8 @@
 //! Work that is under way, by what it is for.
-ghost use Rattle.std.specs.Prelude.{◌≡◌, None, Some, map, IfSome, IsSome};
+ghost use Rattle.std.specs.Prelude.{◌≡◌, [], None, Some, map, IfSome, IsSome};
 ghost use Rattle.std.specs.Option.{option_map, option_copied};
 ghost use Rattle.xdb_read.specs.Fits.{ReadFits};
-ghost use Rattle.xdb_engine.specs.Questions.{is_kept, parts_by, plain_question, question_by, with_result, LooksBy};
+ghost use Rattle.xdb_engine.specs.Questions.{AreAsks, is_kept, parts_by, plain_question, question_by, with_result, LooksBy};
 ghost use Rattle.xdb_engine.specs.View.{with_questions, lent_parts, FitsQuestion, IsBroughtTo};
 
 use crate::asks::Asks;
@@ -15,7 +15,7 @@ impl<F: FileRef, L: Ledger> Engine<F, L> {
     /// Looks for the result of work that is under way where none is kept, and answers whether one is
     /// kept then. It isn't recorded; it takes no memory and never waits.
     pub fn arrived(&mut self, id: Id) -> bool
-        ensures looked { LooksBy id self.old.questions self.new.questions result }
+        ensures looked { LooksBy F.bytes id self.old.questions self.new.questions result }
         ensures same { self.new ≡ with_questions self.old self.new.questions }
     {
         look(&mut self.state.asks, id)
@@ -26,7 +26,7 @@ impl<F: FileRef, L: Ledger> Engine<F, L> {
     pub fn bring(&mut self, id: Id, out: Outcome)
         requires there { IsSome (question_by id self.old.questions) }
         requires waits { IfSome (question_by id self.old.questions) (λ q. q.kept ≡ None) }
-        requires fits { IfSome (question_by id self.old.questions) (λ q. FitsQuestion q out) }
+        requires fits { IfSome (question_by id self.old.questions) (λ q. FitsQuestion F.bytes q out) }
         ensures { IsBroughtTo id out self.old self.new }
     {
         let Outcome::Read(done) = out;
@@ -35,9 +35,12 @@ impl<F: FileRef, L: Ledger> Engine<F, L> {
 
     /// What was handed out for work that is under way; none where there is no such work.
     pub fn given(&self, id: &Id) -> Option<Given<'_, F>>
-        ensures { lent_parts result ≡ parts_by id.now self.now.questions }
+        ensures lent { lent_parts result ≡ parts_by id.now self.now.questions }
+        // No tables are handed out yet.
+        ensures bare { IfSome (lent_parts result) (λ parts. parts.tables ≡ []) }
     {
-        find(&self.state.asks, *id).map(|question| Given::Read(question.given()))
+        let question = find(&self.state.asks, *id)?;
+        Some(Given::Read(question.given()))
     }
 
     /// Whether a result is kept for work that is under way.
@@ -60,8 +63,11 @@ impl<F: FileRef, L: Ledger> Engine<F, L> {
 }
 
 fn find<F: FileRef>(asks: &Asks<F>, id: Id) -> Option<&OpenRead<F>>
-    ensures { option_copied result ≡ question_by id asks.now }
+    ensures found { option_copied result ≡ question_by id asks.now }
+    ensures asks { AreAsks F.bytes asks.now }
 {
+    // With the number of the questions comes what holds of them.
+    let _open = asks.len();
     match id {
         Id::Ask(ask) => asks.find(ask),
         Id::Job(_) | Id::Load(_) => None,
@@ -69,7 +75,7 @@ fn find<F: FileRef>(asks: &Asks<F>, id: Id) -> Option<&OpenRead<F>>
 }
 
 fn look<F: FileRef>(asks: &mut Asks<F>, id: Id) -> bool
-    ensures looks { LooksBy id asks.old asks.new result }
+    ensures looks { LooksBy F.bytes id asks.old asks.new result }
     ensures same { map plain_question asks.new ≡ map plain_question asks.old }
 {
     match id {
@@ -80,7 +86,7 @@ fn look<F: FileRef>(asks: &mut Asks<F>, id: Id) -> bool
 
 fn bring<F: FileRef>(asks: &mut Asks<F>, id: Id, done: ReadDone)
     requires there { IsSome (question_by id asks.old) }
-    requires fits { IfSome (question_by id asks.old) (λ q. ReadFits q.given done) }
+    requires fits { IfSome (question_by id asks.old) (λ q. ReadFits F.bytes q.given done) }
     ensures placed { IfSome (question_by id asks.old) (λ q. asks.new ≡ with_result q done asks.old) }
     ensures same { map plain_question asks.new ≡ map plain_question asks.old }
 {

@@ -92,10 +92,10 @@ module _ {F : Type 0} where
       same
 
   -- The result is kept, and a settle answers it.
-  pub answered-takes : {old one two new : EngineView F} {by : By} {question : Question} {ask : ℕ} {told : Reply} → OpensRead old one by question ask → EndsWork (question_of ask one.questions) Kept one two → Adds two new (settle_note by ask two.questions told) → told ≡ settle_reply (question_of ask two.questions) → new.questions ≡ after_settle ask two.questions → TakesLine old new (Some by) (cmd.Ask question false)
-  answered-takes {old} {one} {two} {new} {by} {question} {ask} opens ends adds says left =
+  pub answered-takes : {old one two new : EngineView F} {by : By} {question : Question} {ask : ℕ} {told : Reply} (bytes : F → Option (List ℕ)) → OpensRead old one by question ask → EndsWork bytes (question_of ask one.questions) Kept one two → Adds two new (settle_note by ask two.questions told) → told ≡ settle_reply (question_of ask two.questions) → new.questions ≡ after_settle ask two.questions → TakesLine old new (Some by) (cmd.Ask question false)
+  answered-takes {old} {one} {two} {new} {by} {question} {ask} bytes opens ends adds says left =
       let q : Asking F = asking ask by false opens.given fresh_story None in
-      let k : Keeps q one two = subst (λ o. EndsWork o Kept one two) opens.there ends in
+      let k : Keeps bytes q one two = subst (λ o. EndsWork bytes o Kept one two) opens.there ends in
       let r : Asking F = with_story q fresh_story (Some k.done) in
       let there : question_of ask two.questions ≡ Some r = ap (λ e. question_of ask e.questions) k.keeps ∙ under-placed (λ (x : Asking F). x.ask) ask q r one.questions refl opens.there in
       ends-read opens (grows-none (ap (λ e. e.notes) k.keeps) (ap (λ e. e.first_seq) k.keeps) (ap (λ e. e.first_file) k.keeps)) adds refl
@@ -104,11 +104,11 @@ module _ {F : Type 0} where
       (left ∙ ap (λ o. settle_leaves ask o two.questions) there ∙ ap (λ e. without ask e.questions) k.keeps ∙ others-placed (λ (x : Asking F). x.ask) ask r one.questions refl ∙ opens.apart)
 
   -- No result is kept: an allocation failed.
-  pub unanswered-takes : {old one new : EngineView F} {by : By} {question : Question} {ask : ℕ} → OpensRead old one by question ask → (end : WorkEnd) → EndsWork (question_of ask one.questions) end one new → (end ≡ Kept → ⊥) → TakesLine old new (Some by) (cmd.Ask question false)
-  unanswered-takes {old} {one} {new} {by} {question} {ask} opens Failed ends off =
-      let l : Lacks (asking ask by false opens.given fresh_story None) one new = subst (λ o. EndsWork o Failed one new) opens.there ends in
+  pub unanswered-takes : {old one new : EngineView F} {by : By} {question : Question} {ask : ℕ} (bytes : F → Option (List ℕ)) → OpensRead old one by question ask → (end : WorkEnd) → EndsWork bytes (question_of ask one.questions) end one new → (end ≡ Kept → ⊥) → TakesLine old new (Some by) (cmd.Ask question false)
+  unanswered-takes {old} {one} {new} {by} {question} {ask} bytes opens Failed ends off =
+      let l : Lacks bytes (asking ask by false opens.given fresh_story None) one new = subst (λ o. EndsWork bytes o Failed one new) opens.there ends in
       ends-read opens (grows-none refl refl refl) l.note refl (ap (λ x. act.Ask ask x false) opens.same_question) refl (l.leaves ∙ opens.apart)
-  unanswered-takes {old} {one} {new} {by} {question} {ask} opens NoSuch ends off =
-      let e : EndsWork (Some (asking ask by false opens.given fresh_story None)) NoSuch one new = subst (λ o. EndsWork o NoSuch one new) opens.there ends in
+  unanswered-takes {old} {one} {new} {by} {question} {ask} bytes opens NoSuch ends off =
+      let e : EndsWork bytes (Some (asking ask by false opens.given fresh_story None)) NoSuch one new = subst (λ o. EndsWork bytes o NoSuch one new) opens.there ends in
       absurd (false≢true e.0)
-  unanswered-takes opens Kept ends off = absurd (off refl)
+  unanswered-takes bytes opens Kept ends off = absurd (off refl)

@@ -43,9 +43,9 @@ among-others ws ask n other = among-pushed n ask ws ∙ ap (λ t. is_among n ws 
 
 module _ {F : Type 0} where
   -- The result is kept, and the line has no note.
-  work-keeps : {old new : EngineView F} (ask : ℕ) (o : Option (Asking F)) → KnowsQuestions old → question_of ask old.questions ≡ o → EndsWork o Kept old new → TakesLine old new (Some Db) (cmd.Work ask)
-  work-keeps ask None knows there k = absurd k
-  work-keeps {old} {new} ask (Some q) knows there k =
+  work-keeps : {old new : EngineView F} (bytes : F → Option (List ℕ)) (ask : ℕ) (o : Option (Asking F)) → KnowsQuestions old → question_of ask old.questions ≡ o → EndsWork bytes o Kept old new → TakesLine old new (Some Db) (cmd.Work ask)
+  work-keeps bytes ask None knows there k = absurd k
+  work-keeps {old} {new} bytes ask (Some q) knows there k =
       let r : Asking F = with_story q q.story (Some k.done) in
       let same : q.ask ≡ ask = under-number (λ (x : Asking F). x.ask) ask q old.questions there in
       let numbered : HasNumber (plain_of old).asked q = under-all (λ (x : Asking F). x.ask) (HasNumber (plain_of old).asked) ask q old.questions knows.numbers there in
@@ -65,9 +65,9 @@ module _ {F : Type 0} where
       })
 
   -- An allocation failed.
-  work-lacks : {old new : EngineView F} (ask : ℕ) (o : Option (Asking F)) → KnowsQuestions old → question_of ask old.questions ≡ o → EndsWork o Failed old new → TakesLine old new (Some Db) (cmd.Work ask)
-  work-lacks ask None knows there l = absurd l
-  work-lacks {old} {new} ask (Some q) knows there l =
+  work-lacks : {old new : EngineView F} (bytes : F → Option (List ℕ)) (ask : ℕ) (o : Option (Asking F)) → KnowsQuestions old → question_of ask old.questions ≡ o → EndsWork bytes o Failed old new → TakesLine old new (Some Db) (cmd.Work ask)
+  work-lacks bytes ask None knows there l = absurd l
+  work-lacks {old} {new} bytes ask (Some q) knows there l =
       let same : q.ask ≡ ask = under-number (λ (x : Asking F). x.ask) ask q old.questions there in
       takes (grows-one l.note) refl
       (λ r at.
@@ -81,19 +81,19 @@ module _ {F : Type 0} where
       (λ r at. subst (λ qs. All (Awaits r.worked) qs) (sym l.leaves) (All-filter (λ x. not (eqb x.ask q.ask)) (Awaits r.worked) old.questions at.questions))
 
   -- There was work to do.
-  pub work-ends : {old new : EngineView F} (ask : ℕ) (end : WorkEnd) → KnowsQuestions old → EndsWork (question_of ask old.questions) end old new → (end ≡ NoSuch → ⊥) → TakesLine old new (Some Db) (cmd.Work ask)
-  work-ends ask NoSuch knows ends off = absurd (off refl)
-  work-ends {old} ask Kept knows ends off = work-keeps ask (question_of ask old.questions) knows refl ends
-  work-ends {old} ask Failed knows ends off = work-lacks ask (question_of ask old.questions) knows refl ends
+  pub work-ends : {old new : EngineView F} (bytes : F → Option (List ℕ)) (ask : ℕ) (end : WorkEnd) → KnowsQuestions old → EndsWork bytes (question_of ask old.questions) end old new → (end ≡ NoSuch → ⊥) → TakesLine old new (Some Db) (cmd.Work ask)
+  work-ends bytes ask NoSuch knows ends off = absurd (off refl)
+  work-ends {old} bytes ask Kept knows ends off = work-keeps bytes ask (question_of ask old.questions) knows refl ends
+  work-ends {old} bytes ask Failed knows ends off = work-lacks bytes ask (question_of ask old.questions) knows refl ends
 
   -- There is no such work to do.
-  none-ends : (o : Option (Asking F)) (old new : EngineView F) → EndsWork o NoSuch old new → (new ≡ old) × (waits_for_work o ≡ false)
-  none-ends None old new is = (is, refl)
-  none-ends (Some q) old new is = (is.1, ap not is.0)
+  none-ends : (bytes : F → Option (List ℕ)) (o : Option (Asking F)) (old new : EngineView F) → EndsWork bytes o NoSuch old new → (new ≡ old) × (waits_for_work o ≡ false)
+  none-ends bytes None old new is = (is, refl)
+  none-ends bytes (Some q) old new is = (is.1, ap not is.0)
 
-  pub work-none : {old mid new : EngineView F} {ask : ℕ} {told : Reply} → KnowsQuestions old → EndsWork (question_of ask old.questions) NoSuch old mid → Adds mid new (plain_note Db (act.Work ask) told) → told ≡ reply.NoSuch → new.questions ≡ mid.questions → TakesLine old new (Some Db) (cmd.Work ask)
-  work-none {old} {mid} {new} {ask} {told} knows ends adds says same =
-      let none = none-ends (question_of ask old.questions) old mid ends in
+  pub work-none : {old mid new : EngineView F} {ask : ℕ} {told : Reply} (bytes : F → Option (List ℕ)) → KnowsQuestions old → EndsWork bytes (question_of ask old.questions) NoSuch old mid → Adds mid new (plain_note Db (act.Work ask) told) → told ≡ reply.NoSuch → new.questions ≡ mid.questions → TakesLine old new (Some Db) (cmd.Work ask)
+  work-none {old} {mid} {new} {ask} {told} bytes knows ends adds says same =
+      let none = none-ends bytes (question_of ask old.questions) old mid ends in
       let adds_old : Adds old new (plain_note Db (act.Work ask) told) = subst (λ e. Adds e new (plain_note Db (act.Work ask) told)) none.0 adds in
       takes-alike (grows-one adds_old) refl
       (λ r at. (record { same_by = refl; same_act = refl }, ap is_no_such says ∙ sym (ap not (waits-by r old ask (question_of ask old.questions) at knows refl ∙ none.1))))

@@ -1,5 +1,5 @@
 -- How work that is under way ends.
-use Rattle.std.specs.Prelude.{◌≡◌, true, Option, Some, None, Result, is_some, IfOk}
+use Rattle.std.specs.Prelude.{◌≡◌, ℕ, true, List, Option, Some, None, Result, is_some, IfOk}
 use Rattle.std.specs.declared.alloc.AllocError.{AllocError}
 use Rattle.xdb_steps.specs.Notes.{plain_note}
 use Rattle.xdb_engine.specs.Ends.{failure_act, failure_by}
@@ -11,20 +11,21 @@ use Rattle.xdb_read.specs.declared.parts.ReadDone.{ReadDone}
 use Rattle.xdb_run.specs.declared.works.WorkEnd.{WorkEnd}
 use Rattle.xdb_run.specs.declared.works.WorkEnd.TheVariants.{NoSuch, Kept, Failed}
 
-module _ {F : Type 0} where
+-- `bytes` is what files tell
+module _ {F : Type 0} (bytes : F → Option (List ℕ)) where
   -- What comes of the work on a question, if there is such work to do: its result, or want of memory.
   abbrev pub IsWorkedOn : Option (Asking F) → Option (Result ReadDone AllocError) → Type 0
   IsWorkedOn None None = Unit {0}
   IsWorkedOn None (Some result) = ⊥
   IsWorkedOn (Some q) None = is_some q.kept ≡ true
-  IsWorkedOn (Some q) (Some result) = (q.kept ≡ None) × IfOk result (ReadFits q.given)
+  IsWorkedOn (Some q) (Some result) = (q.kept ≡ None) × IfOk result (ReadFits bytes q.given)
 
   -- The result of a question that had none is kept, and fits what was handed out for it.
   pub record Keeps (q : Asking F) (old new : EngineView F) : Type 0 where
     pub waits : q.kept ≡ None
     pub done : ReadDone
     pub keeps : new ≡ with_questions old (with_result q done old.questions)
-    pub fits : ReadFits q.given done
+    pub fits : ReadFits bytes q.given done
 
   -- An allocation failed in the work on a question that had no result: a note tells so, and the question is gone.
   pub record Lacks (q : Asking F) (old new : EngineView F) : Type 0 where

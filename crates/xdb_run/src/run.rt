@@ -13,13 +13,13 @@ use crate::{RunNo, lines};
 use std::alloc::{AllocError, Global};
 use std::marker::Brand;
 use std::sync::ledger::{Blank, Ledger};
-use xdb_device::{Device, FaultBook, FileRef};
+use xdb_device::{Device, FaultBook, FileRef, Reader};
 use xdb_engine::Engine;
 use xdb_history::History;
 use xdb_plain::{Line, Script};
 
-/// Runs a script on one thread, one line after another, and gives its history. Files go to the device;
-/// no command that writes one is built yet.
+/// Runs a script on one thread, one line after another, and gives its history. Files go to the device
+/// and are read from it; no command that writes one is built yet.
 pub fn run_script<D: Device>(alloc: Global, script: Script, dev: &mut D) -> Result<History, RunNo>
     requires built { first_unbuilt script ≡ None }
     ensures right { IfOk result (λ history. IsRight 1 1 history.notes) }
@@ -42,7 +42,7 @@ pub fn run_script_named<D: Device, L: Ledger>(
     alloc: Global,
     blank: Blank,
     script: Script,
-    _dev: &mut D,
+    dev: &mut D,
 ) -> Result<History, RunNo>
     requires name { blank.name ≡ L.name }
     requires parts { blank.parts ≡ L.parts }
@@ -51,14 +51,14 @@ pub fn run_script_named<D: Device, L: Ledger>(
     ensures right { IfOk result (λ history. IsRight 1 1 history.notes) }
     ensures run { IfOk result (λ history. IsRunOf 1 1 script history.notes) }
     ensures faults { IfOk result (λ history.
-        RoseBy (faults history.notes) (D.faults _dev.old) (D.faults _dev.new)) }
+        RoseBy (faults history.notes) (D.faults dev.old) (D.faults dev.new)) }
     ensures undamaged { AreTold D.File.bytes
         → IfOk result (λ history. has_damage history.notes ≡ false) }
-    ensures alone { _dev.new ≡ _dev.old }
+    ensures alone { dev.new ≡ dev.old }
 {
     let (book, shares) = FaultBook::<L>::split(alloc, blank, 1)?;
     let mut engine: Engine<D::File, L> = Engine::new(alloc, 1, 1, book);
-    take_all(alloc, &mut engine, script.into_lines())?;
+    take_all(alloc, &mut engine, script.into_lines(), dev)?;
     // No file is there yet that could be removed.
     let (history, mut book) = engine.into_history();
     // What the notes tell of faults is in the book, which is the sum of its shares.
@@ -67,19 +67,21 @@ pub fn run_script_named<D: Device, L: Ledger>(
 }
 
 /// Takes one line after another. The memory of lines that were taken is given back as the run goes on.
-fn take_all<F: FileRef, L: Ledger>(
+fn take_all<F: FileRef, L: Ledger, R: Reader<File = F>>(
     alloc: Global,
     engine: &mut Engine<F, L>,
     script: Vec<Line>,
+    dev: &mut R,
 ) -> Result<(), AllocError>
     requires run { IsTrue (list_all is_run script.items) }
     requires fresh { HasTakenLines [] engine.old }
-    ensures { OnOk result (HasTakenLines script.items engine.new) }
+    ensures taken { OnOk result (HasTakenLines script.items engine.new) }
+    ensures alone { dev.new ≡ dev.old }
 {
     let mut left = script;
     left.reverse();
     while let Some(line) = left.pop() {
-        lines::take(alloc, engine, line)?;
+        lines::take(alloc, engine, line, dev)?;
         shorten(&mut left);
     }
     Ok(())

@@ -8,5 +8,5 @@ pub returns-clause-step : goal.returns-clause-step
 returns-clause-step g c =
     let e = c.settle-act.ensures in
     let s = c.settle-act.result in
-    settle-steps c.args.state.now c.settle-act.new.self c.args.ask c.args.by c.new.result.note e.asks e.settled.leaves
+    settle-steps c.args.state.now c.settle-act.new.self c.args.ask g.F.FileRef.bytes c.args.by c.new.result.note e.asks e.settled.leaves
     (c.new.ensures.note ∙ (λ i. plain_note c.args.by (e.settled.same_act i) ((c.new.ensures.reply ∙ e.settled.told) i)))

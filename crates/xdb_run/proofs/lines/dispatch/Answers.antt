@@ -6,7 +6,7 @@ use Rattle.xdb_run.specs.Running.{TakesLine}
 use Rattle.xdb_run.proofs.LineLaws.{table-takes}
 use Rattle.xdb_run.proofs.lines.dispatch.Goals as goal
 
-pub returns-in-None-Table : goal.returns-in-None-Table
-returns-in-None-Table g c =
+pub returns-in-None-Table-clause-line : goal.returns-in-None-Table-clause-line
+returns-in-None-Table-clause-line g c =
     subst (λ (x : Option By × Cmd). TakesLine c.args.engine.now c.args.engine.now x.0 x.1) (λ i. (sym c.in-None-Table.is-0 i, sym c.in-None-Table.is-1 i))
     (table-takes c.args.engine.now c.in-None-Table.table-1)

@@ -14,12 +14,12 @@ take_all-requires-clause-run g c κs within =
 
 pub returns-clause-run : goal.returns-clause-run
 returns-clause-run g c =
-    run-whole c.args.script c.into_lines.result.items c.take_all.new.engine c.into_history-history.result.0.notes c.into_lines.ensures.lines c.in_ok-take_all.ensures c.into_history-history.ensures.notes c.into_history-history.ensures.clean
+    run-whole c.args.script c.into_lines.result.items c.take_all.new.engine c.into_history-history.result.0.notes c.into_lines.ensures.lines c.in_ok-take_all.ensures.taken c.into_history-history.ensures.notes c.into_history-history.ensures.clean
 
 pub returns-clause-faults : goal.returns-clause-faults
 returns-clause-faults g c =
     let end = c.into_history-history in
     let shares = c.in_ok-book.shares in
-    let count = g.D.Reader.faults c.args._dev.now in
-    rose-none (faults end.result.0.notes) end.result.1 (sum shares.items) count count (end.ensures.booked ∙ ap faults (sym end.ensures.notes)) c.sum.ensures.sum
-    (none-booked shares.items (sym shares.ok.0 ∙ c.in_ok-book.ensures.count) c.in_ok-book.ensures.shares) refl
+    let count = g.D.Reader.faults c.args.dev.now in
+    rose-none (faults end.result.0.notes) end.result.1 (sum shares.items) count (g.D.Reader.faults c.take_all.new.dev) (end.ensures.booked ∙ ap faults (sym end.ensures.notes)) c.sum.ensures.sum
+    (none-booked shares.items (sym shares.ok.0 ∙ c.in_ok-book.ensures.count) c.in_ok-book.ensures.shares) (ap g.D.Reader.faults c.take_all.ensures.alone)

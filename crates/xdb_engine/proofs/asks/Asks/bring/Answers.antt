@@ -7,7 +7,7 @@ pub bring-requires-after_bounds : goal.bring-requires-after_bounds
 bring-requires-after_bounds g c κs within =
     let place = rw (c.deref.ensures.value, c.in-Some.is) at c.place.ensures in
     let q = c.index_mut-question.result.now in
-    let there = place-is c.args.ask c.in-Some.at c.self.inside.questions.items q c.self.invariant place (sym c.index_mut-question.ensures.value) in
+    let there = place-is g.F.FileRef.bytes c.args.ask c.in-Some.at c.self.inside.questions.items q c.self.invariant place (sym c.index_mut-question.ensures.value) in
     rw (← c.self.view_is, there) at c.requires.fits
 
 pub invariant_of-self : goal.invariant_of-self
@@ -15,18 +15,18 @@ invariant_of-self g c =
     let place = rw (c.deref.ensures.value, c.in-Some.is) at c.place.ensures in
     let q = c.index_mut-question.result.now in
     let e = c.bring.ensures in
-    set-asks c.args.ask c.in-Some.at c.self.inside.questions.items q c.self.invariant place (sym c.index_mut-question.ensures.value) c.bring.new.self e.same e.fits
+    set-asks g.F.FileRef.bytes c.args.ask c.in-Some.at c.self.inside.questions.items q c.self.invariant place (sym c.index_mut-question.ensures.value) c.bring.new.self e.same e.fits
 
 pub returns-clause-placed : goal.returns-clause-placed
 returns-clause-placed g c =
     let place = rw (c.deref.ensures.value, c.in-Some.is) at c.place.ensures in
     let q = c.index_mut-question.result.now in
     let e = c.bring.ensures in
-    rw (← c.self.view_is) (brought c.args.ask c.in-Some.at c.self.inside.questions.items q c.self.invariant place (sym c.index_mut-question.ensures.value) c.bring.new.self e.same e.fits c.args.done e.kept)
+    rw (← c.self.view_is) (brought g.F.FileRef.bytes c.args.ask c.in-Some.at c.self.inside.questions.items q c.self.invariant place (sym c.index_mut-question.ensures.value) c.bring.new.self e.same e.fits c.args.done e.kept)
 
 pub returns-clause-same : goal.returns-clause-same
 returns-clause-same g c =
     let place = rw (c.deref.ensures.value, c.in-Some.is) at c.place.ensures in
     let q = c.index_mut-question.result.now in
     let e = c.bring.ensures in
-    rw (← c.self.view_is) (set-plain c.args.ask c.in-Some.at c.self.inside.questions.items q c.self.invariant place (sym c.index_mut-question.ensures.value) c.bring.new.self e.same e.fits)
+    rw (← c.self.view_is) (set-plain g.F.FileRef.bytes c.args.ask c.in-Some.at c.self.inside.questions.items q c.self.invariant place (sym c.index_mut-question.ensures.value) c.bring.new.self e.same e.fits)

@@ -7,16 +7,16 @@ pub invariant_of-self : goal.invariant_of-self
 invariant_of-self g c =
     let place = rw (c.deref.ensures.value, c.in-Some.is) at c.place.ensures in
     let e = c.arrived.ensures in
-    set-asks c.args.ask c.in-Some.at c.self.inside.questions.items c.index_mut-question.result.now c.self.invariant place (sym c.index_mut-question.ensures.value) c.arrived.new.self e.same e.fits
+    set-asks g.F.FileRef.bytes c.args.ask c.in-Some.at c.self.inside.questions.items c.index_mut-question.result.now c.self.invariant place (sym c.index_mut-question.ensures.value) c.arrived.new.self e.same e.fits
 
 pub returns-clause-looks : goal.returns-clause-looks
 returns-clause-looks g c =
     let place = rw (c.deref.ensures.value, c.in-Some.is) at c.place.ensures in
     let e = c.arrived.ensures in
-    rw (← c.self.view_is) (looks c.args.ask c.in-Some.at c.self.inside.questions.items c.index_mut-question.result.now c.self.invariant place (sym c.index_mut-question.ensures.value) c.arrived.new.self e.same e.fits c.arrived.result e.look e.tells)
+    rw (← c.self.view_is) (looks g.F.FileRef.bytes c.args.ask c.in-Some.at c.self.inside.questions.items c.index_mut-question.result.now c.self.invariant place (sym c.index_mut-question.ensures.value) c.arrived.new.self e.same e.fits c.arrived.result e.look e.tells)
 
 pub returns-clause-same : goal.returns-clause-same
 returns-clause-same g c =
     let place = rw (c.deref.ensures.value, c.in-Some.is) at c.place.ensures in
     let e = c.arrived.ensures in
-    rw (← c.self.view_is) (set-plain c.args.ask c.in-Some.at c.self.inside.questions.items c.index_mut-question.result.now c.self.invariant place (sym c.index_mut-question.ensures.value) c.arrived.new.self e.same e.fits)
+    rw (← c.self.view_is) (set-plain g.F.FileRef.bytes c.args.ask c.in-Some.at c.self.inside.questions.items c.index_mut-question.result.now c.self.invariant place (sym c.index_mut-question.ensures.value) c.arrived.new.self e.same e.fits)

@@ -13,5 +13,5 @@ pub invariant_of-self : goal.invariant_of-self
 invariant_of-self g c =
     let e = c.self.inside in
     let is = c.new-verdict.ensures.note ∙ ap (plain_note Db c.args.act) c.new-verdict.ensures.reply in
-    let step = no_such (core_of e.state) (state_of e.history) c.args.act c.self.invariant.agrees c.requires.work in
+    let step = no_such {told = Unit {0}} (core_of e.state) (state_of e.history) c.args.act c.self.invariant.agrees c.requires.work in
     stands-pushed (core_of e.state) (core_of e.state) e.history c.push.new.self e.book (plain_note Db c.args.act NoSuch) c.self.invariant step c.push.ensures.seq c.push.ensures.file (c.push.ensures.notes ∙ ap (λ n. e.history.notes ++ n ∷ []) is)
