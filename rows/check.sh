@@ -5,7 +5,7 @@
 set -u
 here=$(cd "$(dirname "$0")" && pwd)
 rows=$(cd "${1:-$here}" && pwd)
-program=$here/../excisedb
+program=$here/../crates/excisedb/out/excisedb
 work=$(mktemp -d)
 trap 'rm -rf "$work"' EXIT
 passed=0
@@ -55,8 +55,8 @@ check_line_feeds() {
   check "$1 line feeds" "$2" "$work/want" '' "$work/script"
 }
 
-# The program is built before the first row.
-"$program" run </dev/null >/dev/null || exit
+# The proved program, and no other one, is built before the first row.
+"$here/../build" >/dev/null || exit
 
 for script in "$rows"/*.script; do
   row=${script%.script}
