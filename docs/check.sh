@@ -3,7 +3,8 @@
 # - a link leads to a file or a folder that exists;
 # - a link to a specification, named as a definition, leads to the file that defines it;
 # - in a row of a table, where a cell of clauses stands before a link to a source, these clauses stand there, each in the
-#   contract of the function that the cell names.
+#   contract of the function that the cell names;
+# - each line of a block that names a file behind its language, as in ```text FILE, stands in that file.
 # The last line counts.
 set -u
 cd "$(dirname "$0")/.." || exit 1
@@ -32,8 +33,8 @@ definitions() {
     }' {} +
 }
 
-# What the documents claim, a line for each claim: `link`, `definition` or `clause`, where it is said, the file, and the
-# names.
+# What the documents claim, a line for each claim: `link`, `definition`, `clause` or `quote`, where it is said, the file,
+# and the names or the text.
 claims() {
   git ls-files -z --cached --others --exclude-standard '*.md' | xargs -0 awk '
     # The path without `.` and `..`.
@@ -85,7 +86,13 @@ claims() {
       folder = FILENAME
       if (!sub(/\/[^\/]*$/, "", folder)) folder = "."
     }
-    /^ *```/ { fenced = !fenced }
+    /^ *```/ {
+      fenced = !fenced
+      quoted_file = fenced && NF == 2 ? $2 : ""
+      if (quoted_file != "") print "link", FILENAME ":" FNR, quoted_file
+      next
+    }
+    fenced && quoted_file != "" && NF { print "quote", FILENAME ":" FNR, quoted_file, $0 }
     fenced { next }
     {
       place = FILENAME ":" FNR
@@ -118,12 +125,20 @@ while read -r key; do
   stands[$key]=1
 done < <(clauses_that_stand; definitions)
 
-while read -r kind place path names; do
-  if { [ "$kind" = link ] && [ -e "$path" ]; } || [ -n "${stands[$path $names]:-}" ]; then
+holds() {
+  case $1 in
+    link) [ -e "$2" ] ;;
+    quote) [ -f "$2" ] && grep -qF -- "$3" "$2" ;;
+    *) [ -n "${stands[$2 $3]:-}" ] ;;
+  esac
+}
+
+while read -r kind place path text; do
+  if holds "$kind" "$path" "$text"; then
     passed=$((passed + 1))
   else
     failed=$((failed + 1))
-    echo "$place: no such $kind: $path $names"
+    echo "$place: no such $kind: $path $text"
   fi
 done < <(claims)
 
