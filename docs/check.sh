@@ -36,7 +36,7 @@ definitions() {
 # What the documents claim, a line for each claim: `link`, `definition`, `clause` or `quote`, where it is said, the file,
 # and the names or the text.
 claims() {
-  git ls-files -z --cached --others --exclude-standard '*.md' | xargs -0 awk '
+  find . \( -name out -o -name .git \) -prune -o -name '*.md' -print0 | xargs -0 awk '
     # The path without `.` and `..`.
     function plain(path,   parts, n, kept, i, out) {
       n = split(path, parts, "/")
@@ -84,7 +84,7 @@ claims() {
     FNR == 1 {
       fenced = 0
       folder = FILENAME
-      if (!sub(/\/[^\/]*$/, "", folder)) folder = "."
+      sub(/\/[^\/]*$/, "", folder)
     }
     /^ *```/ {
       fenced = !fenced
