@@ -1,36 +1,90 @@
 -- The parts of an engine beside its history, how they step, and what every engine keeps.
-use Rattle.std.specs.Prelude.{◌≡◌, ℕ, false, [], map, IsTrue}
+use Rattle.std.specs.Prelude.{◌≡◌, ℕ, false, List, [], map, Option, IsTrue}
+use Rattle.std.specs.Option.{unwrap_or}
+use Rattle.xdb_edit.specs.Versions.{no_tables}
 use Rattle.xdb_history.specs.Recorded.{Recorded, state_of}
+use Rattle.xdb_laws.specs.Tables.{contents}
 use Rattle.xdb_plain.specs.Failures.{faults, has_damage}
-use Rattle.xdb_plain.specs.Legal.{Right}
-use Rattle.xdb_plain.specs.State.{Plain, opening}
+use Rattle.xdb_plain.specs.Legal.{Right, TellHolds}
+use Rattle.xdb_plain.specs.State.{Plain, Version, Hold, for_ask, opening}
 use Rattle.xdb_plain.specs.Steps.{is_client}
 use Rattle.xdb_plain.specs.declared.act.By.{By}
 use Rattle.xdb_plain.specs.declared.note.Note.{Note}
-use Rattle.xdb_steps.specs.Core.{Core, core, numbers, no_files}
+use Rattle.xdb_steps.specs.Between.{Held}
+use Rattle.xdb_steps.specs.Core.{Core, Files, core, holders, numbers}
 use Rattle.xdb_steps.specs.Keeps.{Agrees, Means}
-use Rattle.xdb_steps.specs.Step.{Step}
-use Rattle.xdb_engine.specs.Questions.{plain_question}
+use Rattle.xdb_steps.specs.SetFiles.{AreOfSet}
+use Rattle.xdb_steps.specs.Step.{HeldStep}
+use Rattle.xdb_vset.specs.Seen.{Seen, version_of}
+use Rattle.xdb_engine.specs.Files.{HasNoFiles, content_by}
+use Rattle.xdb_engine.specs.Questions.{Asking, plain_question}
 use Rattle.xdb_engine.specs.declared.state.State.{State}
 
 module _ {F : Type 0} where
-  -- as plain data: each open question by what its parts mean; no job was started, and there are no files
-  abbrev pub core_of : State F → Core
-  core_of s = core s.mem (numbers s.numbers.next s.numbers.file s.numbers.asked 0) (map plain_question s.asks) no_files []
+  -- the version of a number, as the set has it
+  abbrev pub version_at : Seen F → ℕ → Version
+  version_at s v = record { num = v; levels = unwrap_or (version_of s v) no_tables }
 
-  -- Wherever the parts agreed with the plain state, the note is a step of both, whether files tell their bytes or not.
-  -- It books no fault.
-  abbrev pub Steps : State F → State F → Note → Type 0
-  Steps old new note = (p : Plain) → Agrees (core_of old) p → Step (Unit {0}) 0 (core_of old) (core_of new) p note
+  -- the hold of an open question
+  abbrev pub ask_hold : Seen F → Asking F → Hold
+  ask_hold s q = record { id = q.hold.id; holder = for_ask q.ask; version = version_at s q.hold.version }
+
+  -- those of all of them
+  abbrev pub ask_holds : Seen F → List (Asking F) → List Hold
+  ask_holds s questions = map (ask_hold s) questions
+
+-- `bytes` is what files tell
+module _ {F : Type 0} (bytes : F → Option (List ℕ)) where
+  -- the files of a set, with what the tables of its current version have
+  abbrev pub files_of : Seen F → List Hold → Files
+  files_of s holds = record {
+    current = record { num = s.current.num; levels = s.current.levels };
+    contents = contents (content_by bytes s) s.current.levels;
+    holds = holds;
+    known = s.known;
+    taken = s.taken;
+  }
+
+  -- As plain data: each open question by what its parts mean. No job was started.
+  abbrev pub core_of : State F → Core
+  core_of s = core s.mem (numbers s.numbers.next s.numbers.file s.numbers.asked 0) (map plain_question s.asks)
+      (files_of s.files (ask_holds s.files s.asks)) []
+
+  -- each holder has its hold
+  abbrev pub HoldsStand : State F → Type 0
+  HoldsStand s = Held (core_of s).files.holds (holders (core_of s))
+
+  -- The set has what the parts show of it. There are no files in it yet.
+  pub record SetStands (s : State F) : Type 0 where
+    pub of_set : AreOfSet s.files (core_of s).files
+    pub none : HasNoFiles s.files
+
+  -- Wherever the parts agreed with the plain state, the note is a step of both, and so many faults were booked.
+  abbrev pub IsStep : ℕ → State F → State F → Note → Type 0
+  IsStep rise old new note = (p : Plain) → Agrees (core_of old) p → HoldsStand old
+      → HeldStep (Unit {0}) rise (core_of old) (core_of new) p note
+
+  -- The set goes on to have what the parts show of it, and the note is a step, whether files tell their bytes or not.
+  pub record Steps (rise : ℕ) (old new : State F) (note : Note) : Type 0 where
+    pub step : SetStands old → IsStep rise old new note
+    pub set : SetStands old → SetStands new
 
   -- the same where it is a client who steps
   abbrev pub ClientSteps : By → State F → State F → Note → Type 0
-  ClientSteps by old new note = IsTrue (is_client by) → Steps old new note
+  ClientSteps by old new note = IsTrue (is_client by) → Steps 0 old new note
 
 -- `told` says that the files tell their bytes.
 pub record Stands (told : Type 0) (c : Core) (h : Recorded) (book : ℕ) : Type 0 where
   pub right : Right (opening h.first_seq h.first_file) h.notes
+  pub tells : TellHolds (opening h.first_seq h.first_file) h.notes
   pub agrees : Agrees c (state_of h)
   pub means : Means c (state_of h)
+  pub held : Held c.files.holds (holders c)
   pub booked : book ≡ faults h.notes
   pub undamaged : told → has_damage h.notes ≡ false
+
+-- the same of an engine's state, with what holds of its set
+pub record StateStands {F : Type 0} (bytes : F → Option (List ℕ)) (told : Type 0) (s : State F) (h : Recorded) (book : ℕ)
+    : Type 0 where
+  pub stands : Stands told (core_of bytes s) h book
+  pub set : SetStands bytes s
