@@ -87,11 +87,12 @@ module _ {F : Type 0} (bytes : F → Option (List ℕ)) where
     removed-is = place-removed ∙ ap (λ n. without n qs) (sym place-number)
 
     -- a settle before the result is kept, and one that answers
-    pub settled-early : (s : Settled) → is_some q.kept ≡ false → s.act ≡ act.Settle ask → s.noted ≡ answer_of None → s.told ≡ answer_of None → IsSettled ask (question_of ask qs) qs qs s
-    settled-early s off acts noted told = subst (λ o. IsSettled ask o qs qs s) (sym place-is) (record {
+    pub settled-early : (s : Settled) → is_some q.kept ≡ false → s.act ≡ act.Settle ask → s.noted ≡ answer_of None → s.told ≡ answer_of None → s.hold ≡ None → IsSettled ask (question_of ask qs) qs qs s
+    settled-early s off acts noted told nothing = subst (λ o. IsSettled ask o qs qs s) (sym place-is) (record {
       same_act = acts ∙ ap (λ b. cond b (answer_act q) (act.Settle ask)) (sym off);
       noted = noted ∙ ap answer_of (sym (none q.kept off));
       told = told ∙ ap answer_of (sym (none q.kept off));
+      hold = nothing ∙ ap (λ b. cond b (Some q.hold) None) (sym off);
       leaves = ap (λ b. cond b (without ask qs) qs) (sym off);
     })
       where
@@ -99,11 +100,12 @@ module _ {F : Type 0} (bytes : F → Option (List ℕ)) where
         none None e = refl
         none (Some done) e = absurd (false≢true (sym e))
 
-    pub settled-answered : (s : Settled) → is_some q.kept ≡ true → s.act ≡ answer_act q → s.noted ≡ answer_of q.kept → s.told ≡ answer_of q.kept → IsSettled ask (question_of ask qs) qs (remove qs at) s
-    settled-answered s on acts noted told = subst (λ o. IsSettled ask o qs (remove qs at) s) (sym place-is) (record {
+    pub settled-answered : (s : Settled) → is_some q.kept ≡ true → s.act ≡ answer_act q → s.noted ≡ answer_of q.kept → s.told ≡ answer_of q.kept → s.hold ≡ Some q.hold → IsSettled ask (question_of ask qs) qs (remove qs at) s
+    settled-answered s on acts noted told goes = subst (λ o. IsSettled ask o qs (remove qs at) s) (sym place-is) (record {
       same_act = acts ∙ ap (λ b. cond b (answer_act q) (act.Settle ask)) (sym on);
       noted = noted;
       told = told;
+      hold = goes ∙ ap (λ b. cond b (Some q.hold) None) (sym on);
       leaves = place-removed ∙ ap (λ b. cond b (without ask qs) qs) (sym on);
     })
 

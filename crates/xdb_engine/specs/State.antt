@@ -59,15 +59,16 @@ module _ {F : Type 0} (bytes : F → Option (List ℕ)) where
     pub of_set : AreOfSet s.files (core_of s).files
     pub none : HasNoFiles s.files
 
-  -- Wherever the parts agreed with the plain state, the note is a step of both, and so many faults were booked.
-  abbrev pub IsStep : ℕ → State F → State F → Note → Type 0
-  IsStep rise old new note = (p : Plain) → Agrees (core_of old) p → HoldsStand old
-      → HeldStep (Unit {0}) rise (core_of old) (core_of new) p note
+  -- The note is a step of the parts and of the plain state, whether files tell their bytes or not, and so many faults
+  -- were booked. The set goes on to have what the parts show of it.
+  pub record IsStep (rise : ℕ) (old new : State F) (p : Plain) (note : Note) : Type 0 where
+    pub step : HeldStep (Unit {0}) rise (core_of old) (core_of new) p note
+    pub set : SetStands new
 
-  -- The set goes on to have what the parts show of it, and the note is a step, whether files tell their bytes or not.
-  pub record Steps (rise : ℕ) (old new : State F) (note : Note) : Type 0 where
-    pub step : SetStands old → IsStep rise old new note
-    pub set : SetStands old → SetStands new
+  -- wherever the parts agreed with the plain state
+  abbrev pub Steps : ℕ → State F → State F → Note → Type 0
+  Steps rise old new note =
+      (p : Plain) → Agrees (core_of old) p → HoldsStand old → SetStands old → IsStep rise old new p note
 
   -- the same where it is a client who steps
   abbrev pub ClientSteps : By → State F → State F → Note → Type 0
