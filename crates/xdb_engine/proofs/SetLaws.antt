@@ -1,11 +1,12 @@
 -- What the set of an engine's files has after a question took its hold, and after one let go of it.
 use Rattle.std.proofs.Common.{◌≡◌, ℕ, true, false, cond, not, eqb, ◌||◌, List, [], ◌∷◌, ◌++◌, map, Option, Some, None, inl, inr, ◌⊎◌, refl, sym, ap, ◌∙◌, subst}
-use Rattle.std.specs.Option.{unwrap_or}
+use Rattle.std.specs.Option.{option_map, unwrap_or}
 use Rattle.std.proofs.lemmas.Bool.{false≢true, cases_eq, or_right, eq-eqb, ne_eqb, eqb-true, cond-true, cond-false}
 use Rattle.std.proofs.lemmas.List.{map-append}
 use Rattle.std.proofs.lemmas.Option.{none-some}
 use Rattle.xdb_edit.specs.Versions.{LevelLists, no_tables}
 use Rattle.xdb_laws.specs.Tables.{contents}
+use Rattle.xdb_lists.specs.Keyed.{at_key}
 use Rattle.xdb_mem.proofs.PickLaws.{Has-filter, Has-from_filter}
 use Rattle.xdb_plain.specs.Counts.{same_holder}
 use Rattle.xdb_plain.specs.State.{Version, Hold as PlainHold, Holder, for_ask}
@@ -21,9 +22,9 @@ use Rattle.xdb_vset.specs.Holds.{slot_of, is_held}
 use Rattle.xdb_vset.specs.Seen.{Seen, version_of}
 use Rattle.xdb_vset.specs.Versions.{Numbered}
 use Rattle.xdb_engine.specs.Files.{HasNoFiles, content_by}
-use Rattle.xdb_engine.specs.Holds.{HoldsCurrent, LetsGoOf}
+use Rattle.xdb_engine.specs.Holds.{HoldsCurrent, LetsGoOf, ask_hold, ask_holds, version_at}
 use Rattle.xdb_engine.specs.Questions.{Asking, without}
-use Rattle.xdb_engine.specs.State.{ask_hold, ask_holds, files_of, version_at}
+use Rattle.xdb_engine.specs.State.{files_of}
 
 -- ---- a hold of the current version
 
@@ -42,7 +43,7 @@ module _ {F : Type 0} (s new : Seen F) (h : Hold) (holds_now : HoldsCurrent s ne
 
     current-there : version_of later f.current.num ≡ Some f.current.levels
     current-there =
-        cond-true (eqb s.current.num f.current.num) (Some s.current.levels) (version_of s f.current.num) (eq-eqb s.current.num f.current.num (sym of.num))
+        cond-true (eqb s.current.num f.current.num) (Some s.current.levels) (option_map (λ (w : Numbered). w.levels) (at_key (λ (w : Numbered). w.num) f.current.num s.older)) (eq-eqb s.current.num f.current.num (sym of.num))
         ∙ ap (λ (ls : LevelLists). Some ls) (sym of.levels)
 
     module _ (holder : Holder) (holds : List PlainHold) where
@@ -93,7 +94,7 @@ module _ {F : Type 0} (s new : Seen F) (h : Hold) (holds_now : HoldsCurrent s ne
         (λ i. record { id = (whose i).id; holder = for_ask q.ask; version = version_at later (whose i).version })
         ∙ (λ i. record { id = h.id; holder = for_ask q.ask; version = version_at later (holds_now.version i) })
         ∙ ap (λ (o : Option LevelLists). record { id = h.id; holder = for_ask q.ask; version = record { num = s.current.num; levels = unwrap_or o no_tables } })
-        (cond-true (eqb s.current.num s.current.num) (Some s.current.levels) (version_of s s.current.num) (eq-eqb s.current.num s.current.num refl))
+        (cond-true (eqb s.current.num s.current.num) (Some s.current.levels) (option_map (λ (w : Numbered). w.levels) (at_key (λ (w : Numbered). w.num) s.current.num s.older)) (eq-eqb s.current.num s.current.num refl))
 
     pub more-holds : ask_holds new (qs ++ q ∷ []) ≡ ask_holds s qs ++ last ∷ []
     more-holds =

@@ -25,8 +25,9 @@ use Rattle.xdb_steps.specs.Step.{HeldStep}
 use Rattle.xdb_steps.proofs.OpeningLaws.{opening-means}
 use Rattle.xdb_vset.specs.Seen.{Seen}
 use Rattle.xdb_engine.specs.Files.{HasNoFiles, first_set}
-use Rattle.xdb_engine.specs.Questions.{plain_question}
-use Rattle.xdb_engine.specs.State.{Stands, StateStands, SetStands, IsStep, Steps, ask_holds, core_of, files_of}
+use Rattle.xdb_engine.specs.Holds.{ask_holds}
+use Rattle.xdb_engine.specs.Questions.{Asking, plain_question}
+use Rattle.xdb_engine.specs.State.{Stands, StateStands, SetStands, IsStep, Steps, core_of, files_of}
 use Rattle.xdb_engine.specs.declared.state.State.{State}
 
 -- a note that tells of no damage
@@ -73,6 +74,17 @@ module _ {F : Type 0} (bytes : F → Option (List ℕ)) {told : Type 0} (s t : S
   pub state-pushed : Steps bytes 0 s t note → k.first_seq ≡ h.first_seq → k.first_file ≡ h.first_file → k.notes ≡ h.notes ++ note ∷ [] → StateStands bytes told t k book
   state-pushed steps seq file notes = state-booked book 0 steps seq file notes (omega arith)
 
+-- The same where the questions have other stories and results.
+module _ {F : Type 0} (bytes : F → Option (List ℕ)) (s : State F) (asks : List (Asking F)) (same : map plain_question asks ≡ map plain_question s.asks) (holds : (set : Seen F) → ask_holds set asks ≡ ask_holds set s.asks) where
+  core-same : core_of bytes s ≡ core_of bytes (record s { asks = asks })
+  core-same = λ i. core s.mem (numbers s.numbers.next s.numbers.file s.numbers.asked 0) (sym same i) (files_of bytes s.files (sym (holds s.files) i)) []
+
+  pub state-looked : {told : Type 0} (h : Recorded) (book : ℕ) → StateStands bytes told s h book → StateStands bytes told (record s { asks = asks }) h book
+  state-looked {told} h book stands = record {
+    stands = subst (λ c. Stands told c h book) core-same stands.stands;
+    set = record { of_set = subst (λ (c : Core). AreOfSet s.files c.files) core-same stands.set.of_set; none = stands.set.none };
+  }
+
 -- before the first note
 nobody-held : Held [] []
 nobody-held = record { whose = λ x. (λ h. h, λ h. h); one_each = λ h k has. absurd has; one_number = λ h k has. absurd has }
@@ -108,7 +120,10 @@ module _ {F : Type 0} (bytes : F → Option (List ℕ)) (s : State F) (none : s.
   first-files : files_of bytes s.files (ask_holds s.files s.asks) ≡ no_files
   first-files = λ i. files_of bytes (fresh i) (ask_holds (fresh i) (none i))
 
-  set-agrees : AreOfSet (first_set {F}) no_files
+  abbrev fresh_set : Seen F
+  fresh_set = first_set
+
+  set-agrees : AreOfSet fresh_set no_files
   set-agrees = record { num = refl; levels = refl; held = λ h has. absurd has; all = λ id v there. absurd (cc); known = λ n. refl; taken = λ n. refl }
 
   set-first : SetStands bytes s

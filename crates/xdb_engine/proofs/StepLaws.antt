@@ -1,6 +1,5 @@
 -- What the calls do is a step of the parts.
-use Rattle.std.proofs.Common.{◌≡◌, ℕ, ◌+◌, ◌<◌, ◌≤◌, ◌^◌, Bool, true, false, cond, eqb, List, [], ◌∷◌, ◌++◌, append-nil, length, map, Option, Some, None, refl, sym, ap, ◌∙◌, subst, IsTrue, arith}
-use Rattle.std.specs.List.{drop}
+use Rattle.std.proofs.Common.{◌≡◌, ℕ, ◌+◌, ◌<◌, ◌≤◌, ◌^◌, Bool, true, false, cond, eqb, List, [], ◌∷◌, ◌++◌, append-nil, drop, length, map, Option, Some, None, refl, sym, ap, ◌∙◌, subst, IsTrue, arith}
 use Rattle.std.specs.Option.{is_some, IfSome}
 use Rattle.std.proofs.Math.Seq.{drop-append_seam}
 use Rattle.std.proofs.lemmas.Bool.{false≢true}
@@ -64,10 +63,12 @@ use Rattle.xdb_vset.specs.Seen.{Seen}
 use Rattle.xdb_engine.specs.Asks.{ArePartsOf, IsOpened}
 use Rattle.xdb_engine.specs.Ends.{answer_act, answer_of, failure, failure_by, failure_act, failure_hold, failure_leaves, settle_act, settle_hold, settle_reply, settle_leaves}
 use Rattle.xdb_engine.specs.Files.{HasNoFiles, content_by}
-use Rattle.xdb_engine.specs.Holds.{IsHoldIn, LetsGo, LetsGoOf, holds_since, release_note, release_notes, taking_note}
+use Rattle.xdb_engine.specs.Holds.{ask_hold, ask_holds, IsHoldIn, LetsGo, LetsGoOf, holds_since, release_note, release_notes, taking_note}
+use Rattle.xdb_engine.specs.Opening.{read_of, IsOpenBehind}
 use Rattle.xdb_engine.specs.Questions.{Asking, AreAsks, asking, mem_meant, plain_question, question_of, without, FitsGiven, IsBare}
-use Rattle.xdb_engine.specs.State.{core_of, files_of, ask_hold, ask_holds, HoldsStand, SetStands, IsStep, Steps, ClientSteps}
+use Rattle.xdb_engine.specs.State.{core_of, files_of, HoldsStand, SetStands, IsStep, Steps, ClientSteps}
 use Rattle.xdb_engine.specs.declared.asking.NewQuestion.{NewQuestion}
+use Rattle.xdb_engine.specs.declared.questions.AskedRead.{AskedRead}
 use Rattle.xdb_engine.specs.declared.state.State.{State}
 use Rattle.xdb_engine.proofs.AskLaws.{plain-found}
 use Rattle.xdb_engine.proofs.SetLaws.{none-new, unheld, taken-keeps, more-holds, none-left, left-files, left-keeps, fewer-holds}
@@ -90,6 +91,28 @@ module _ {F : Type 0} (old : State F) where
   pub parts-are-clear : (question : Question) (parts : ReadParts F) → RisesWithin 1 old.numbers.next (all_ops (groups old.mem)) → ArePartsOf (groups old.mem) old.numbers.next question parts → IsClear (mem_content parts)
   parts-are-clear question parts rising h =
       parts-clear parts.bounds old.numbers.next (all_ops (groups old.mem)) (mem_content parts) h.same_content (items-clear 1 old.numbers.next (all_ops (groups old.mem)) rising)
+
+  -- A question that stands behind the others is opened.
+  module _ (new : State F) (question : Question) (a : AskedRead F) (hand : ReadParts F) (told : List HoldNote) where
+    pub question-opened : IsOpenBehind a old.asks new.asks old.files new.files told → a.number ≡ old.numbers.asked + 1 → a.work.given ≡ hand → a.work.story ≡ fresh_story → a.work.kept ≡ None → ArePartsOf (groups old.mem) old.numbers.next question hand → is_of_now question ≡ true → length old.asks < 64 → new.numbers ≡ record old.numbers { asked = a.number } → new.mem ≡ old.mem → IsOpened old new a.by question a.parted (record { ask = a.number; hand = hand; holds = told })
+    question-opened o number given story kept parts now room numbers_are mem =
+        let q : Asking F = read_of a o.hold in
+        record {
+          opens = record {
+            number = number;
+            hold = o.hold;
+            opened = o.opened ∙ (λ i. old.asks ++ asking a.number a.by a.parted (given i) o.hold (story i) (kept i) ∷ []);
+            version = o.holds.version;
+            parts = parts;
+            of_now = now;
+            room = room;
+          };
+          numbers = numbers_are;
+          mem = mem;
+          files = o.holds;
+          holds = o.note ∙ sym (ap (λ (qs : List (Asking F)). map (λ (x : Asking F). taking_note x.hold) (drop (length old.asks) qs)) o.opened
+              ∙ ap (map (λ (x : Asking F). taking_note x.hold)) (drop-append_seam old.asks (q ∷ [])));
+        }
 
   module _ (bytes : F → Option (List ℕ)) where
     abbrev before : Core
@@ -168,8 +191,8 @@ module _ {F : Type 0} (old : State F) where
             ap (map plain_question) o.opens.opened ∙ map-append plain_question old.asks (asked ∷ [])
             ∙ (λ i. map plain_question old.asks ++ open_question (o.opens.number i) by (o.opens.parts.same_question i) parted (mem_meant made.hand) ∷ [])
 
-        left : core_of bytes new ≡ holding_core (asked_core before by question parted (mem_meant made.hand)) holds
-        left =
+        new-core : core_of bytes new ≡ holding_core (asked_core before by question parted (mem_meant made.hand)) holds
+        new-core =
             (λ i. core (o.mem i) (numbers (o.numbers i).next (o.numbers i).file (o.numbers i).asked 0) (questions i) (same-files i) [])
             ∙ ap (λ n. record (holding_core (asked_core before by question parted (mem_meant made.hand)) holds) { numbers = numbers old.numbers.next old.numbers.file n 0 }) o.opens.number
 
@@ -189,7 +212,7 @@ module _ {F : Type 0} (old : State F) where
         opened-steps note is = λ client p a held set.
             let same : SameMembers holds (before.files.holds ++ next_hold before o.opens.hold.id ∷ []) = same-as holds (ask_holds old.files old.asks ++ next_hold before o.opens.hold.id ∷ []) more in
             record {
-              step = subst (λ (x : Core × Note). HeldStep (Unit {0}) 0 before x.0 p x.1) (λ i. (sym left i, sym (told note is) i))
+              step = subst (λ (x : Core × Note). HeldStep (Unit {0}) 0 before x.0 p x.1) (λ i. (sym new-core i, sym (told note is) i))
                   (opened-held before p by question parted (mem_meant made.hand) o.opens.hold.id holds a held client o.opens.of_now few (λ t m. parts-mean p question made.hand set.none a m o.opens.of_now o.opens.parts)
                   (unheld old.files new.files o.opens.hold o.files before.files set.of_set) same);
               set = record {
@@ -219,7 +242,7 @@ module _ {F : Type 0} (old : State F) where
       abbrev later : State F
       later = record old { asks = asks; files = files }
 
-      module _ (q : Asking F) (there : question_of q.ask old.asks ≡ Some q) (left : asks ≡ without q.ask old.asks) (goes : LetsGoOf q.hold old.files files) where
+      module _ (q : Asking F) (there : question_of q.ask old.asks ≡ Some q) (leaves : asks ≡ without q.ask old.asks) (goes : LetsGoOf q.hold old.files files) where
         abbrev holds_left : List PlainHold
         holds_left = ask_holds files asks
 
@@ -230,11 +253,11 @@ module _ {F : Type 0} (old : State F) where
         has = (found-there (λ (x : Asking F). eqb x.ask q.ask) q old.asks there).0
 
         ended : HasNoFiles old.files → holding_core (ended_core before q.ask) holds_left ≡ core_of bytes later
-        ended none = λ i. core old.mem (numbers old.numbers.next old.numbers.file old.numbers.asked 0) ((without-mapped plain_question q.ask old.asks ∙ ap (map plain_question) (sym left)) i)
+        ended none = λ i. core old.mem (numbers old.numbers.next old.numbers.file old.numbers.asked 0) ((without-mapped plain_question q.ask old.asks ∙ ap (map plain_question) (sym leaves)) i)
             (sym (left-files bytes old.files files q goes none holds_left) i) []
 
         fewer : (p : Plain) → HoldsStand bytes old → SetStands bytes old → SameMembers holds_left (without_hold q.hold.id before.files.holds)
-        fewer p held set = subst (λ qs. SameMembers (ask_holds files qs) (without_hold q.hold.id before.files.holds)) (sym left)
+        fewer p held set = subst (λ qs. SameMembers (ask_holds files qs) (without_hold q.hold.id before.files.holds)) (sym leaves)
             (fewer-holds bytes old.files files q goes old.asks before.files refl set.of_set (holders before) held has)
 
         -- whatever the note tells
@@ -276,27 +299,27 @@ module _ {F : Type 0} (old : State F) where
 
         -- nothing ends
         settle-still : (by : By) (note : Note) → asks ≡ old.asks → files ≡ old.files → ClientSteps bytes by old old note → ClientSteps bytes by old later note
-        settle-still by note left same steps = subst (λ (x : List (Asking F) × Seen F). ClientSteps bytes by old (record old { asks = x.0; files = x.1 }) note) (λ i. (sym left i, sym same i)) steps
+        settle-still by note leaves same steps = subst (λ (x : List (Asking F) × Seen F). ClientSteps bytes by old (record old { asks = x.0; files = x.1 }) note) (λ i. (sym leaves i, sym same i)) steps
 
         settle-kept : (by : By) (q : Asking F) (kept : Option ReadDone) → AreAsks bytes old.asks → question_of ask old.asks ≡ Some q → q.kept ≡ kept → asks ≡ cond (is_some kept) (without ask old.asks) old.asks → LetsGo (cond (is_some kept) (Some q.hold) None) old.files files → ClientSteps bytes by old later (held_note by (cond (is_some kept) (answer_act q) (act.Settle ask)) (answer_of kept) (release_notes (cond (is_some kept) (Some q.hold) None)))
-        settle-kept by q None s there e left goes = settle-still by (plain_note by (act.Settle ask) NotYet) left goes
+        settle-kept by q None s there e leaves goes = settle-still by (plain_note by (act.Settle ask) NotYet) leaves goes
             (λ client. still-steps (plain_note by (act.Settle ask) NotYet) (λ p a held. step-free (settles.early before p by ask a client (plain_question q) (plain-found ask old.asks (Some q) there)) refl refl held))
-        settle-kept by q (Some done) s there e left goes = answer-steps q (itself q there) (left ∙ ap (λ n. without n old.asks) (sym (number q there))) goes by done s e
+        settle-kept by q (Some done) s there e leaves goes = answer-steps q (itself q there) (leaves ∙ ap (λ n. without n old.asks) (sym (number q there))) goes by done s e
 
         settle-found : (by : By) (o : Option (Asking F)) → AreAsks bytes old.asks → question_of ask old.asks ≡ o → asks ≡ settle_leaves ask o old.asks → LetsGo (settle_hold o) old.files files → ClientSteps bytes by old later (held_note by (settle_act ask o) (settle_reply o) (release_notes (settle_hold o)))
-        settle-found by None s there left goes = settle-still by (plain_note by (act.Settle ask) NoSuch) left goes
+        settle-found by None s there leaves goes = settle-still by (plain_note by (act.Settle ask) NoSuch) leaves goes
             (λ client. still-steps (plain_note by (act.Settle ask) NoSuch) (λ p a held. step-free (settles.none before p by ask a client (plain-found ask old.asks None there)) refl refl held))
-        settle-found by (Some q) s there left goes = settle-kept by q q.kept s there refl left goes
+        settle-found by (Some q) s there leaves goes = settle-kept by q q.kept s there refl leaves goes
 
         pub settle-steps : (by : By) (note : Note) → AreAsks bytes old.asks → asks ≡ settle_leaves ask (question_of ask old.asks) old.asks → LetsGo (settle_hold (question_of ask old.asks)) old.files files → note ≡ held_note by (settle_act ask (question_of ask old.asks)) (settle_reply (question_of ask old.asks)) (release_notes (settle_hold (question_of ask old.asks))) → ClientSteps bytes by old later note
-        settle-steps by note s left goes is = subst (ClientSteps bytes by old later) (sym is) (settle-found by (question_of ask old.asks) s refl left goes)
+        settle-steps by note s leaves goes is = subst (ClientSteps bytes by old later) (sym is) (settle-found by (question_of ask old.asks) s refl leaves goes)
 
         lack-found : (o : Option (Asking F)) → is_some o ≡ true → question_of ask old.asks ≡ o → asks ≡ failure_leaves o old.asks → LetsGo (failure_hold o) old.files files → Steps bytes 0 old later (held_note (failure o).0 (failure o).1 Memory (release_notes (failure_hold o)))
-        lack-found None some there left goes = absurd (false≢true some)
-        lack-found (Some q) some there left goes = fail-steps q (itself q there) left goes
+        lack-found None some there leaves goes = absurd (false≢true some)
+        lack-found (Some q) some there leaves goes = fail-steps q (itself q there) leaves goes
 
         pub lack-steps : (note : Note) → is_some (question_of ask old.asks) ≡ true → asks ≡ failure_leaves (question_of ask old.asks) old.asks → LetsGo (failure_hold (question_of ask old.asks)) old.files files → note ≡ held_note (failure (question_of ask old.asks)).0 (failure (question_of ask old.asks)).1 Memory (release_notes (failure_hold (question_of ask old.asks))) → Steps bytes 0 old later note
-        lack-steps note some left goes is = subst (Steps bytes 0 old later) (sym is) (lack-found (question_of ask old.asks) some refl left goes)
+        lack-steps note some leaves goes is = subst (Steps bytes 0 old later) (sym is) (lack-found (question_of ask old.asks) some refl leaves goes)
 
     -- nothing is there to work on
     pub no_work-steps : (does : Act) → IsTrue (is_work does) → Steps bytes 0 old old (plain_note Db does NoSuch)

@@ -1,5 +1,8 @@
 -- Holds of versions: what notes tell of them, and what is done to the set that has them.
 use Rattle.std.specs.Prelude.{◌≡◌, ℕ, ◌==◌, ◌||◌, List, [], ◌∷◌, length, map, drop, Option, Some, None, if◌then◌else◌}
+use Rattle.std.specs.Option.{unwrap_or}
+use Rattle.xdb_edit.specs.Versions.{no_tables}
+use Rattle.xdb_plain.specs.State.{Version, Hold as PlainHold, for_ask}
 use Rattle.xdb_plain.specs.declared.note.HoldNote.{HoldNote}
 use Rattle.xdb_plain.specs.declared.note.HoldNote.TheVariants as hold_note
 use Rattle.xdb_vset.specs.Backings.{file_in}
@@ -33,6 +36,18 @@ module _ {F : Type 0} where
   -- the set has it
   abbrev pub IsHoldIn : Seen F → Hold → Type 0
   IsHoldIn s h = slot_of h.id s.slots ≡ Some (Some h.version)
+
+  -- the version of a number, as the set has it
+  abbrev pub version_at : Seen F → ℕ → Version
+  version_at s v = record { num = v; levels = unwrap_or (version_of s v) no_tables }
+
+  -- the hold of an open question
+  abbrev pub ask_hold : Seen F → Asking F → PlainHold
+  ask_hold s q = record { id = q.hold.id; holder = for_ask q.ask; version = version_at s q.hold.version }
+
+  -- those of all of them
+  abbrev pub ask_holds : Seen F → List (Asking F) → List PlainHold
+  ask_holds s questions = map (ask_hold s) questions
 
   -- The current version is held once more, under a number that nothing stood under.
   pub record HoldsCurrent (old new : Seen F) (h : Hold) : Type 0 where

@@ -1,12 +1,10 @@
 -- The parts of an engine beside its history, how they step, and what every engine keeps.
 use Rattle.std.specs.Prelude.{◌≡◌, ℕ, false, List, [], map, Option, IsTrue}
-use Rattle.std.specs.Option.{unwrap_or}
-use Rattle.xdb_edit.specs.Versions.{no_tables}
 use Rattle.xdb_history.specs.Recorded.{Recorded, state_of}
 use Rattle.xdb_laws.specs.Tables.{contents}
 use Rattle.xdb_plain.specs.Failures.{faults, has_damage}
 use Rattle.xdb_plain.specs.Legal.{Right, TellHolds}
-use Rattle.xdb_plain.specs.State.{Plain, Version, Hold, for_ask, opening}
+use Rattle.xdb_plain.specs.State.{Plain, Hold, opening}
 use Rattle.xdb_plain.specs.Steps.{is_client}
 use Rattle.xdb_plain.specs.declared.act.By.{By}
 use Rattle.xdb_plain.specs.declared.note.Note.{Note}
@@ -15,23 +13,11 @@ use Rattle.xdb_steps.specs.Core.{Core, Files, core, holders, numbers}
 use Rattle.xdb_steps.specs.Keeps.{Agrees, Means}
 use Rattle.xdb_steps.specs.SetFiles.{AreOfSet}
 use Rattle.xdb_steps.specs.Step.{HeldStep}
-use Rattle.xdb_vset.specs.Seen.{Seen, version_of}
+use Rattle.xdb_vset.specs.Seen.{Seen}
 use Rattle.xdb_engine.specs.Files.{HasNoFiles, content_by}
-use Rattle.xdb_engine.specs.Questions.{Asking, plain_question}
+use Rattle.xdb_engine.specs.Holds.{ask_holds}
+use Rattle.xdb_engine.specs.Questions.{plain_question}
 use Rattle.xdb_engine.specs.declared.state.State.{State}
-
-module _ {F : Type 0} where
-  -- the version of a number, as the set has it
-  abbrev pub version_at : Seen F → ℕ → Version
-  version_at s v = record { num = v; levels = unwrap_or (version_of s v) no_tables }
-
-  -- the hold of an open question
-  abbrev pub ask_hold : Seen F → Asking F → Hold
-  ask_hold s q = record { id = q.hold.id; holder = for_ask q.ask; version = version_at s q.hold.version }
-
-  -- those of all of them
-  abbrev pub ask_holds : Seen F → List (Asking F) → List Hold
-  ask_holds s questions = map (ask_hold s) questions
 
 -- `bytes` is what files tell
 module _ {F : Type 0} (bytes : F → Option (List ℕ)) where

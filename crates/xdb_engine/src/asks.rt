@@ -5,10 +5,11 @@ ghost use Rattle.xdb_lists.specs.Keyed.{IsRising};
 ghost use Rattle.xdb_plain.specs.declared.act.Act.TheVariants as act;
 ghost use Rattle.xdb_rangedel.specs.Content.{IsClear};
 ghost use Rattle.xdb_read.specs.Fits.{mem_content, ReadFits};
-ghost use Rattle.xdb_engine.specs.Questions.{AreAsks, FitsGiven, IsBare, IsPlaceOf, LooksFor, plain_question, question_of, with_result};
+ghost use Rattle.xdb_engine.specs.Questions.{AreAsks, IsPlaceOf, LooksFor, plain_question, question_of, with_result};
 ghost use Rattle.xdb_engine.specs.Ends.{IsSettled, failure, failure_hold, failure_leaves};
-ghost use Rattle.xdb_engine.specs.Holds.{HoldsCurrent, taking_note};
-ghost use Rattle.xdb_engine.specs.Opening.{IsOpenBehind, read_of};
+ghost use Rattle.xdb_engine.specs.Holds.{ask_holds};
+ghost use Rattle.xdb_engine.specs.Opening.{IsOpenBehind};
+ghost use Rattle.xdb_vset.specs.Seen.{Seen};
 
 use crate::OpenRead;
 use crate::holds::hold_current;
@@ -124,6 +125,7 @@ impl<F: FileRef> Asks<F> {
     pub fn look(&mut self, ask: u64) -> bool
         ensures looks { LooksFor F.bytes (question_of ask self.old) self.old self.new result }
         ensures same { map plain_question self.new ≡ map plain_question self.old }
+        ensures holds { (set : Seen F) → ask_holds set self.new ≡ ask_holds set self.old }
     {
         let Some(at) = place(&self.questions, ask) else {
             return false;
@@ -138,6 +140,7 @@ impl<F: FileRef> Asks<F> {
         requires fits { IfSome (question_of ask self.old) (λ q. ReadFits F.bytes q.given done) }
         ensures placed { IfSome (question_of ask self.old) (λ q. self.new ≡ with_result q done self.old) }
         ensures same { map plain_question self.new ≡ map plain_question self.old }
+        ensures holds { (set : Seen F) → ask_holds set self.new ≡ ask_holds set self.old }
     {
         let Some(at) = place(&self.questions, ask) else {
             unreachable!()
