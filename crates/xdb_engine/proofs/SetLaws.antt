@@ -1,20 +1,19 @@
 -- What the set of an engine's files has after a question took its hold, and after one let go of it.
-use Rattle.std.proofs.Common.{◌≡◌, ℕ, true, false, cond, not, eqb, ◌||◌, List, [], ◌∷◌, ◌++◌, map, Option, Some, None, inl, inr, ◌⊎◌, refl, sym, ap, ◌∙◌, subst}
+use Rattle.std.proofs.Common.{◌≡◌, ℕ, not, eqb, ◌||◌, List, [], ◌∷◌, ◌++◌, Option, Some, None, inl, inr, ◌⊎◌, refl, sym, ap, ◌∙◌, subst}
 use Rattle.std.specs.Option.{option_map, unwrap_or}
-use Rattle.std.proofs.lemmas.Bool.{false≢true, cases_eq, or_right, eq-eqb, ne_eqb, eqb-true, cond-true, cond-false}
+use Rattle.std.proofs.lemmas.Bool.{false≢true, cases_eq, or_right, eq-eqb, ne_eqb, cond-true, cond-false}
 use Rattle.std.proofs.lemmas.List.{map-append}
 use Rattle.std.proofs.lemmas.Option.{none-some}
 use Rattle.xdb_edit.specs.Versions.{LevelLists, no_tables}
 use Rattle.xdb_laws.specs.Tables.{contents}
 use Rattle.xdb_lists.specs.Keyed.{at_key}
 use Rattle.xdb_mem.proofs.PickLaws.{Has-filter, Has-from_filter}
-use Rattle.xdb_plain.specs.Counts.{same_holder}
-use Rattle.xdb_plain.specs.State.{Version, Hold as PlainHold, Holder, for_ask}
+use Rattle.xdb_plain.specs.State.{Hold as PlainHold, Holder, for_ask}
 use Rattle.xdb_rangedel.proofs.MemberLaws.{Has-append_left, Has-append_right, Has-append_cases, Has-map, Has-from_map}
 use Rattle.xdb_rangedel.specs.Members.{Has, SameMembers}
 use Rattle.xdb_steps.proofs.SetSteps.{release-keeps}
 use Rattle.xdb_steps.specs.Between.{Held}
-use Rattle.xdb_steps.specs.Core.{Files, Contents, without_hold}
+use Rattle.xdb_steps.specs.Core.{Files, without_hold}
 use Rattle.xdb_steps.specs.SetFiles.{AreOfSet, IsHoldOf}
 use Rattle.xdb_vset.proofs.HoldLaws.{held_from}
 use Rattle.xdb_vset.specs.Hold.{Hold}
@@ -131,7 +130,6 @@ module _ {F : Type 0} (bytes : F → Option (List ℕ)) (s new : Seen F) (q : As
   module _ (asks : List (Asking F)) (f : Files) (whole : f.holds ≡ ask_holds s asks) (of : AreOfSet s f) (those : List Holder) (held : Held f.holds those) (there : Has asks q) where
     has-hold : (r : Asking F) → Has asks r → Has f.holds (ask_hold s r)
     has-hold r has = subst (λ hs. Has hs (ask_hold s r)) (sym whole) (Has-map (ask_hold s) asks r has)
-
 
     same-ask : (n m : ℕ) → for_ask n ≡ for_ask m → n ≡ m
     same-ask n m e = cc

@@ -23,7 +23,6 @@ use Rattle.xdb_plain.specs.Edits.{is_empty}
 use Rattle.xdb_plain.specs.Holds.{releasing, holds_due}
 use Rattle.xdb_plain.specs.Outcomes.{outcome}
 use Rattle.xdb_plain.specs.State.{Plain, Hold as PlainHold, for_ask, found_question}
-use Rattle.xdb_plain.specs.Steps.{is_client}
 use Rattle.xdb_plain.specs.declared.act.Act.{Act}
 use Rattle.xdb_plain.specs.declared.act.Act.TheVariants as act
 use Rattle.xdb_plain.specs.declared.act.By.{By}
@@ -52,8 +51,7 @@ use Rattle.xdb_steps.proofs.HoldSteps.{opened-held, lacking-held, ended-held}
 use Rattle.xdb_steps.proofs.Holding.{step-free}
 use Rattle.xdb_steps.proofs.SealSteps as seals
 use Rattle.xdb_steps.proofs.SettleSteps as settles
-use Rattle.xdb_steps.specs.Between.{Held}
-use Rattle.xdb_steps.specs.Core.{Core, core, numbers, holders, open_question, ended_core, asked_core, sealed_core, next_hold, holding_core, table_items, without_hold}
+use Rattle.xdb_steps.specs.Core.{Core, core, numbers, holders, open_question, ended_core, asked_core, next_hold, holding_core, table_items, without_hold}
 use Rattle.xdb_steps.specs.Keeps.{Agrees, Means}
 use Rattle.xdb_steps.specs.Notes.{is_work, plain_note, held_note}
 use Rattle.xdb_steps.specs.SetFiles.{AreOfSet}
@@ -66,7 +64,7 @@ use Rattle.xdb_engine.specs.Files.{HasNoFiles, content_by}
 use Rattle.xdb_engine.specs.Holds.{ask_hold, ask_holds, IsHoldIn, LetsGo, LetsGoOf, holds_since, release_note, release_notes, taking_note}
 use Rattle.xdb_engine.specs.Opening.{read_of, IsOpenBehind}
 use Rattle.xdb_engine.specs.Questions.{Asking, AreAsks, asking, mem_meant, plain_question, question_of, without, FitsGiven, IsBare}
-use Rattle.xdb_engine.specs.State.{core_of, files_of, HoldsStand, SetStands, IsStep, Steps, ClientSteps}
+use Rattle.xdb_engine.specs.State.{core_of, files_of, HoldsStand, SetStands, Steps, ClientSteps}
 use Rattle.xdb_engine.specs.declared.asking.NewQuestion.{NewQuestion}
 use Rattle.xdb_engine.specs.declared.questions.AskedRead.{AskedRead}
 use Rattle.xdb_engine.specs.declared.state.State.{State}
