@@ -17,10 +17,15 @@ use Rattle.xdb_read.specs.Fits.{mem_content, ReadFits}
 use Rattle.xdb_read.specs.declared.parts.ReadDone.{ReadDone}
 use Rattle.xdb_steps.proofs.Found.{found-mapped}
 use Rattle.xdb_steps.specs.Parts.Asks.{IsNumbered}
+use Rattle.xdb_vset.specs.Hold.{Hold}
+use Rattle.xdb_vset.specs.Seen.{Seen}
 use Rattle.xdb_engine.specs.Ends.{IsSettled, answer_act, answer_of}
+use Rattle.xdb_engine.specs.Holds.{ask_hold, ask_holds}
+use Rattle.xdb_engine.specs.Opening.{read_of}
 use Rattle.xdb_engine.specs.Questions.{Asking, AreAsks, FitsGiven, IsBare, IsPlaceOf, LooksAt, LooksFor, LooksUnlessKept, plain_question, put, question_by, question_of, with_story, without}
 use Rattle.xdb_engine.specs.declared.ids.Id.{Id}
 use Rattle.xdb_engine.specs.declared.ids.Id.TheVariants as ids
+use Rattle.xdb_engine.specs.declared.questions.AskedRead.{AskedRead}
 use Rattle.xdb_engine.specs.declared.questions.Settled.{Settled}
 
 module _ {F : Type 0} where
@@ -49,6 +54,12 @@ module _ {F : Type 0} (bytes : F → Option (List ℕ)) where
     clear = All-push (λ (x : Asking F). IsClear (mem_content x.given)) qs q a.clear clear;
     fits = All-push (FitsGiven bytes) qs q a.fits fits;
   }
+
+  -- a question that is asked, without a result
+  pub asks-opened : (a : AskedRead F) (hold : Hold) (q : Asking F) (qs : List (Asking F)) → q ≡ read_of a hold → AreAsks bytes qs → length qs < 64 → All (λ x. x.ask < a.number) qs → a.work.given.tables ≡ [] → IsClear (mem_content a.work.given) → a.work.kept ≡ None → AreAsks bytes (qs ++ q ∷ [])
+  asks-opened a hold q qs is asks few last bare clear waits =
+      subst (λ r. AreAsks bytes (qs ++ r ∷ [])) (sym is)
+      (asks-pushed (read_of a hold) qs asks few last bare clear (subst (λ k. IfSome k (ReadFits bytes a.work.given)) (sym waits) tt))
 
   asks-without : (ask : ℕ) (qs : List (Asking F)) → AreAsks bytes qs → AreAsks bytes (without ask qs)
   asks-without ask qs a =
@@ -87,11 +98,12 @@ module _ {F : Type 0} (bytes : F → Option (List ℕ)) where
     removed-is = place-removed ∙ ap (λ n. without n qs) (sym place-number)
 
     -- a settle before the result is kept, and one that answers
-    pub settled-early : (s : Settled) → is_some q.kept ≡ false → s.act ≡ act.Settle ask → s.noted ≡ answer_of None → s.told ≡ answer_of None → IsSettled ask (question_of ask qs) qs qs s
-    settled-early s off acts noted told = subst (λ o. IsSettled ask o qs qs s) (sym place-is) (record {
+    pub settled-early : (s : Settled) → is_some q.kept ≡ false → s.act ≡ act.Settle ask → s.noted ≡ answer_of None → s.told ≡ answer_of None → s.hold ≡ None → IsSettled ask (question_of ask qs) qs qs s
+    settled-early s off acts noted told nothing = subst (λ o. IsSettled ask o qs qs s) (sym place-is) (record {
       same_act = acts ∙ ap (λ b. cond b (answer_act q) (act.Settle ask)) (sym off);
       noted = noted ∙ ap answer_of (sym (none q.kept off));
       told = told ∙ ap answer_of (sym (none q.kept off));
+      hold = nothing ∙ ap (λ b. cond b (Some q.hold) None) (sym off);
       leaves = ap (λ b. cond b (without ask qs) qs) (sym off);
     })
       where
@@ -99,11 +111,12 @@ module _ {F : Type 0} (bytes : F → Option (List ℕ)) where
         none None e = refl
         none (Some done) e = absurd (false≢true (sym e))
 
-    pub settled-answered : (s : Settled) → is_some q.kept ≡ true → s.act ≡ answer_act q → s.noted ≡ answer_of q.kept → s.told ≡ answer_of q.kept → IsSettled ask (question_of ask qs) qs (remove qs at) s
-    settled-answered s on acts noted told = subst (λ o. IsSettled ask o qs (remove qs at) s) (sym place-is) (record {
+    pub settled-answered : (s : Settled) → is_some q.kept ≡ true → s.act ≡ answer_act q → s.noted ≡ answer_of q.kept → s.told ≡ answer_of q.kept → s.hold ≡ Some q.hold → IsSettled ask (question_of ask qs) qs (remove qs at) s
+    settled-answered s on acts noted told goes = subst (λ o. IsSettled ask o qs (remove qs at) s) (sym place-is) (record {
       same_act = acts ∙ ap (λ b. cond b (answer_act q) (act.Settle ask)) (sym on);
       noted = noted;
       told = told;
+      hold = goes ∙ ap (λ b. cond b (Some q.hold) None) (sym on);
       leaves = place-removed ∙ ap (λ b. cond b (without ask qs) qs) (sym on);
     })
 
@@ -134,6 +147,9 @@ module _ {F : Type 0} (bytes : F → Option (List ℕ)) where
 
       pub set-asks : AreAsks bytes (set qs at r)
       set-asks = subst (AreAsks bytes) (sym put-is) put-asks
+
+      pub set-holds : (s : Seen F) → ask_holds s (set qs at r) ≡ ask_holds s qs
+      set-holds s = ap (ask_holds s) put-is ∙ kept-by (ask_hold s) (ap (ask_hold s) same)
 
       pub set-plain : map plain_question (set qs at r) ≡ map plain_question qs
       set-plain = ap (map plain_question) put-is ∙ kept-by plain_question (ap plain_question same)

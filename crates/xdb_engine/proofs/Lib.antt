@@ -1,3 +1,4 @@
 mod AskLaws
+mod SetLaws
 mod StateLaws
 mod StepLaws

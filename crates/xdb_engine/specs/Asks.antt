@@ -17,27 +17,33 @@ use Rattle.xdb_rangedel.specs.View.{restricted}
 use Rattle.xdb_read.specs.Fits.{mem_content}
 use Rattle.xdb_read.specs.declared.parts.ReadParts.{ReadParts}
 use Rattle.xdb_plain.specs.State.{groups as plain_groups}
+use Rattle.xdb_vset.specs.Hold.{Hold}
+use Rattle.xdb_engine.specs.Holds.{HoldsCurrent, holds_since}
 use Rattle.xdb_engine.specs.Questions.{Asking, asking}
 use Rattle.xdb_engine.specs.View.{EngineView, plain_of}
+use Rattle.xdb_engine.specs.declared.asking.NewQuestion.{NewQuestion}
 use Rattle.xdb_engine.specs.declared.state.State.{State}
 
--- what a question is asked over: the groups, the next number, how many questions were asked, and the open ones
+-- what a question is asked over: the groups, the next number, the number of the current version, how many questions
+-- were asked, and the open ones
 pub record Grounds (F : Type 0) : Type 0 where
   pub groups : List Group
   pub next : ℕ
+  pub version : ℕ
   pub asked : ℕ
   pub questions : List (Asking F)
 
-abbrev pub grounds : {F : Type 0} → List Group → ℕ → ℕ → List (Asking F) → Grounds F
-grounds gs next asked questions = record { groups = gs; next = next; asked = asked; questions = questions }
+abbrev pub grounds : {F : Type 0} → List Group → ℕ → ℕ → ℕ → List (Asking F) → Grounds F
+grounds gs next version asked questions =
+    record { groups = gs; next = next; version = version; asked = asked; questions = questions }
 
 module _ {F : Type 0} where
   -- those of an engine's parts, and those of the plain state
   abbrev pub state_grounds : State F → Grounds F
-  state_grounds s = grounds (groups s.mem) s.numbers.next s.numbers.asked s.asks
+  state_grounds s = grounds (groups s.mem) s.numbers.next s.files.current.num s.numbers.asked s.asks
 
   abbrev pub plain_grounds : EngineView F → Grounds F
-  plain_grounds e = let p = plain_of e in grounds (plain_groups p) p.next p.asked e.questions
+  plain_grounds e = let p = plain_of e in grounds (plain_groups p) p.next p.current.num p.asked e.questions
 
   -- The parts of a question about what stands now: all that the groups have inside its bounds below the next number.
   pub record ArePartsOf (groups : List Group) (next : ℕ) (question : Question) (parts : ReadParts F) : Type 0 where
@@ -50,18 +56,24 @@ module _ {F : Type 0} where
     pub same_content : SameMembers (mem_content parts) (in_pieces (restricted parts.bounds (items_below next (all_ops groups))))
     pub tables : parts.tables ≡ []
 
-  -- The question is opened behind the others, with the next number.
+  -- The question is opened behind the others, with the next number. It holds the current version.
   pub record Opens (g : Grounds F) (new : List (Asking F)) (by : By) (question : Question) (parted : Bool) (ask : ℕ) (given : ReadParts F) : Type 0 where
     pub number : ask ≡ g.asked + 1
-    pub opened : new ≡ g.questions ++ asking ask by parted given fresh_story None ∷ []
+    pub hold : Hold
+    pub opened : new ≡ g.questions ++ asking ask by parted given hold fresh_story None ∷ []
+    pub version : hold.version ≡ g.version
     pub parts : ArePartsOf g.groups g.next question given
     pub of_now : is_of_now question ≡ true
     pub room : length g.questions < 64
 
-  -- the question is opened in the parts, where this number and these parts came of it
-  abbrev pub IsOpened : State F → State F → By → Question → Bool → ℕ × ReadParts F → Type 0
-  IsOpened old new by question parted made =
-      Opens (state_grounds old) new.asks by question parted made.0 made.1 × (new.numbers ≡ record old.numbers { asked = made.0 })
+  -- The question is opened in the parts, where this number, these parts and these notes of holds came of it.
+  pub record IsOpened (old new : State F) (by : By) (question : Question) (parted : Bool) (made : NewQuestion F)
+      : Type 0 where
+    pub opens : Opens (state_grounds old) new.asks by question parted made.ask made.hand
+    pub numbers : new.numbers ≡ record old.numbers { asked = made.ask }
+    pub mem : new.mem ≡ old.mem
+    pub files : HoldsCurrent old.files new.files opens.hold
+    pub holds : made.holds ≡ holds_since old.asks new.asks
 
   -- By the reply and what is handed out. No snapshot and no cursor is open, so what is asked of one has none.
   abbrev pub IsAsked : Grounds F → List (Asking F) → By → Question → Bool → Reply → Option (ReadParts F) → Type 0

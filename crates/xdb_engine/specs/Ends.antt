@@ -1,5 +1,6 @@
 -- How questions end: answered, or in vain.
 use Rattle.std.specs.Prelude.{◌≡◌, ℕ, false, List, Option, Some, None, is_some, if◌then◌else◌}
+use Rattle.std.specs.Option.{option_map}
 use Rattle.xdb_plain.specs.declared.act.Act.{Act}
 use Rattle.xdb_plain.specs.declared.act.Act.TheVariants as act
 use Rattle.xdb_plain.specs.declared.act.By.{By}
@@ -8,7 +9,9 @@ use Rattle.xdb_plain.specs.declared.note.Note.{Note}
 use Rattle.xdb_plain.specs.declared.reply.Reply.{Reply}
 use Rattle.xdb_plain.specs.declared.reply.Reply.TheVariants as reply
 use Rattle.xdb_read.specs.declared.parts.ReadDone.{ReadDone}
-use Rattle.xdb_steps.specs.Notes.{plain_note}
+use Rattle.xdb_steps.specs.Notes.{held_note}
+use Rattle.xdb_vset.specs.Hold.{Hold}
+use Rattle.xdb_engine.specs.Holds.{release_notes}
 use Rattle.xdb_engine.specs.Questions.{Asking, question_by, question_of, without}
 use Rattle.xdb_engine.specs.declared.ids.Id.{Id}
 use Rattle.xdb_engine.specs.declared.questions.Settled.{Settled}
@@ -43,9 +46,15 @@ module _ {F : Type 0} where
   settle_leaves ask None questions = questions
   settle_leaves ask (Some q) questions = if is_some q.kept then without ask questions else questions
 
+  -- what the question lets go of
+  abbrev pub settle_hold : Option (Asking F) → Option Hold
+  settle_hold None = None
+  settle_hold (Some q) = if is_some q.kept then Some q.hold else None
+
   -- the same by the questions that are open
   abbrev pub settle_note : By → ℕ → List (Asking F) → Reply → Note
-  settle_note by ask questions reply = plain_note by (settle_act ask (question_of ask questions)) reply
+  settle_note by ask questions reply = let q = question_of ask questions in
+      held_note by (settle_act ask q) reply (release_notes (settle_hold q))
 
   abbrev pub after_settle : ℕ → List (Asking F) → List (Asking F)
   after_settle ask questions = settle_leaves ask (question_of ask questions) questions
@@ -55,6 +64,7 @@ module _ {F : Type 0} where
     pub same_act : settled.act ≡ settle_act ask question
     pub noted : settled.noted ≡ settle_reply question
     pub told : settled.told ≡ settle_reply question
+    pub hold : settled.hold ≡ settle_hold question
     pub leaves : new ≡ settle_leaves ask question old
 
   -- who tells the failure of a question that is there, and as what
@@ -62,9 +72,14 @@ module _ {F : Type 0} where
   failure None = (Db, act.Work 0)
   failure (Some q) = (failure_by q, failure_act q)
 
+  -- what it lets go of
+  abbrev pub failure_hold : Option (Asking F) → Option Hold
+  failure_hold question = option_map (λ q. q.hold) question
+
   -- the note of its failure
   abbrev pub failure_note : Option (Asking F) → Reply → Note
-  failure_note question reply = plain_note (failure question).0 (failure question).1 reply
+  failure_note question reply =
+      held_note (failure question).0 (failure question).1 reply (release_notes (failure_hold question))
 
   -- the questions without that one
   abbrev pub failure_leaves : Option (Asking F) → List (Asking F) → List (Asking F)

@@ -1,6 +1,8 @@
 -- What is seen of an engine, what its calls do to that, and what it keeps.
 pub mod Files
 pub mod Questions
+pub mod Holds
+pub mod Opening
 pub mod Ends
 pub mod Notes
 pub mod View

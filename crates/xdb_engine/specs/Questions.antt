@@ -15,27 +15,29 @@ use Rattle.xdb_read.specs.Fits.{mem_content, ReadFits}
 use Rattle.xdb_read.specs.declared.parts.ReadDone.{ReadDone}
 use Rattle.xdb_read.specs.declared.parts.ReadParts.{ReadParts}
 use Rattle.xdb_steps.specs.Parts.Asks.{IsNumbered}
+use Rattle.xdb_vset.specs.Hold.{Hold}
 use Rattle.xdb_engine.specs.declared.ids.Id.{Id}
 use Rattle.xdb_engine.specs.declared.ids.Id.TheVariants as ids
 
--- An open question: who asked it and how, what was handed out for it, how often its desk looked for the result,
--- and the result once it is kept.
+-- An open question: who asked it and how, what was handed out for it, the hold of the version that this stands on, how
+-- often its desk looked for the result, and the result once it is kept.
 pub record Asking (F : Type 0) : Type 0 where
   pub ask : ℕ
   pub by : By
   pub parted : Bool
   pub given : ReadParts F
+  pub hold : Hold
   pub story : Story
   pub kept : Option ReadDone
 
 module _ {F : Type 0} where
-  abbrev pub asking : ℕ → By → Bool → ReadParts F → Story → Option ReadDone → Asking F
-  asking ask by parted given story kept =
-      record { ask = ask; by = by; parted = parted; given = given; story = story; kept = kept }
+  abbrev pub asking : ℕ → By → Bool → ReadParts F → Hold → Story → Option ReadDone → Asking F
+  asking ask by parted given hold story kept =
+      record { ask = ask; by = by; parted = parted; given = given; hold = hold; story = story; kept = kept }
 
   -- the same question with another story and result
   abbrev pub with_story : Asking F → Story → Option ReadDone → Asking F
-  with_story q story kept = asking q.ask q.by q.parted q.given story kept
+  with_story q story kept = asking q.ask q.by q.parted q.given q.hold story kept
 
   -- the question of a number
   abbrev pub question_of : ℕ → List (Asking F) → Option (Asking F)

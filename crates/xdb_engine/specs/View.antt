@@ -1,6 +1,7 @@
 -- What contracts see of an engine.
 use Rattle.std.specs.Prelude.{◌≡◌, ℕ, ◌+◌, List, [], ◌∷◌, ◌++◌, Option, Some, None, IfSome}
 use Rattle.xdb_history.specs.Recorded.{Recorded}
+use Rattle.xdb_plain.specs.Holds.{HoldsFit}
 use Rattle.xdb_plain.specs.Legal.{after_all, AnswersRight}
 use Rattle.xdb_plain.specs.State.{Plain, opening}
 use Rattle.xdb_plain.specs.Steps.{MayStand}
@@ -39,11 +40,12 @@ engine_view h questions book = record {
 abbrev pub plain_of : {F : Type 0} → EngineView F → Plain
 plain_of e = after_all (opening e.first_seq e.first_file) e.notes
 
--- The history is longer by a note that may stand, and an answer in it is the one that was kept. Its room was made
--- before.
+-- The history is longer by a note that may stand and tells its holds, and an answer in it is the one that was kept. Its
+-- room was made before.
 pub record Adds {F : Type 0} (old new : EngineView F) (note : Note) : Type 0 where
   pub notes : new.notes ≡ old.notes ++ note ∷ []
   pub stands : MayStand (plain_of old) note
+  pub holds : HoldsFit (plain_of old) note
   pub right : AnswersRight (plain_of old) note.act note.reply
   pub spare : new.spare + 1 ≡ old.spare
   pub first_seq : new.first_seq ≡ old.first_seq

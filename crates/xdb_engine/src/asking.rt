@@ -7,27 +7,28 @@ ghost use Rattle.xdb_mem.specs.Queue.{groups, all_ops};
 ghost use Rattle.xdb_plain.specs.Steps.{is_client, asked_number};
 ghost use Rattle.xdb_plain.specs.declared.act.Act.TheVariants as act;
 ghost use Rattle.xdb_plain.specs.declared.act.By.TheVariants.{Client};
-ghost use Rattle.xdb_steps.specs.Notes.{plain_note};
 ghost use Rattle.xdb_steps.specs.Parts.Asks.{IsNumbered};
 ghost use Rattle.xdb_engine.specs.Asks.{ArePartsOf, IsOpened, IsAskedIn, IsAskedOf};
-ghost use Rattle.xdb_engine.specs.Ends.{settle_act, settle_note, settle_reply, after_settle};
+ghost use Rattle.xdb_engine.specs.Ends.{settle_note, settle_reply, after_settle};
+ghost use Rattle.xdb_engine.specs.Holds.{holds_since};
 ghost use Rattle.xdb_engine.specs.Questions.{plain_question, question_of};
-ghost use Rattle.xdb_engine.specs.State.{core_of, ClientSteps};
-ghost use Rattle.xdb_engine.specs.Notes.{IsPlain, ask_note};
+ghost use Rattle.xdb_engine.specs.State.{ClientSteps, SetStands};
+ghost use Rattle.xdb_engine.specs.Notes.{IsHolding, ask_note};
 ghost use Rattle.xdb_engine.specs.View.{Adds};
 
+use crate::Engine;
 use crate::asks::MOST_QUESTIONS;
+use crate::holds::let_go;
 use crate::notes::Verdict;
-use crate::questions::Settled;
+use crate::questions::{AskedRead, Settled};
 use crate::state::State;
-use crate::{Engine, OpenRead};
 use std::alloc::{AllocError, Global};
 use std::sync::ledger::Ledger;
 use xdb_device::FileRef;
 use xdb_key::{Key, KeyRange};
 use xdb_mem::MemQueue;
 use xdb_order::{Hand, Pending, order};
-use xdb_plain::{Act, By, Items, Place, Question, Reply};
+use xdb_plain::{Act, By, HoldNote, Items, Place, Question, Reply};
 use xdb_read::{ReadParts, ReadWork};
 
 impl<F: FileRef, L: Ledger> Engine<F, L> {
@@ -42,7 +43,8 @@ impl<F: FileRef, L: Ledger> Engine<F, L> {
     ) -> (Reply, Option<Hand<ReadWork<F>>>)
         requires room { 1 ≤ self.old.spare }
         requires client { IsTrue (is_client (Client client)) }
-        ensures note { Adds self.old self.new (ask_note (Client client) question parted result.0) }
+        ensures note { Adds self.old self.new (ask_note (Client client) question parted result.0
+            (holds_since self.old.questions self.new.questions)) }
         // What is handed out, and the questions that are open then.
         ensures asked { IsAskedOf self.old self.new (Client client) question parted result.0 result.1 }
     {
@@ -76,10 +78,12 @@ fn ask<F: FileRef>(
     parted: bool,
 ) -> (Verdict, Option<Hand<ReadWork<F>>>)
     requires rising { RisesWithin 1 state.old.numbers.next (all_ops (groups state.old.mem)) }
-    requires numbered { All (IsNumbered state.old.numbers.asked) (core_of state.old).asks }
-    ensures note { IsPlain by (act.Ask (asked_number result.0.reply) question parted) result.0 }
+    requires numbered { All (IsNumbered state.old.numbers.asked)
+        (map plain_question state.old.asks) }
+    ensures note { IsHolding by (act.Ask (asked_number result.0.reply) question parted)
+        (holds_since state.old.asks state.new.asks) result.0 }
     ensures asked { IsAskedIn state.old state.new by question parted result.0.reply result.1 }
-    ensures step { ClientSteps by state.old state.new result.0.note }
+    ensures step { ClientSteps F.bytes by state.old state.new result.0.note }
 {
     if !is_of_now(&question) {
         let act = act_of(0, question, parted);
@@ -96,9 +100,10 @@ fn ask<F: FileRef>(
         );
     }
     match open(alloc, state, by, &question, parted) {
-        Ok((ask, hand)) => {
+        Ok(NewQuestion { ask, hand, holds }) => {
             let act = act_of(ask, question, parted);
-            let verdict = Verdict::new(alloc, by, act, Reply::Asked(ask), Reply::Asked(ask));
+            let (noted, reply) = (Reply::Asked(ask), Reply::Asked(ask));
+            let verdict = Verdict::holding(alloc, by, act, holds, noted, reply);
             (verdict, Some(hand))
         }
         Err(AllocError) => {
@@ -121,21 +126,28 @@ fn act_of(ask: u64, question: Question, parted: bool) -> Act
     }
 }
 
-/// Opens a question with the next number, and gives that and the hand for its work. Without a further
-/// number there is no room for it either.
+/// A question that was opened: its number, the hand for its work, and what the note tells of its hold.
+#[derive(Drop)]
+pub struct NewQuestion<F: FileRef> {
+    pub ask: u64,
+    pub hand: Hand<ReadWork<F>>,
+    pub holds: Items<HoldNote>,
+}
+
+/// Opens a question with the next number. Without a further number there is no room for it either.
 fn open<F: FileRef>(
     alloc: Global,
     state: &mut State<F>,
     by: By,
     question: &Question,
     parted: bool,
-) -> Result<(u64, Hand<ReadWork<F>>), AllocError>
+) -> Result<NewQuestion<F>, AllocError>
     requires now { IsTrue (is_of_now question.now) }
     requires few { length state.old.asks < 64 }
     requires rising { RisesWithin 1 state.old.numbers.next (all_ops (groups state.old.mem)) }
-    requires numbered { All (IsNumbered state.old.numbers.asked) (core_of state.old).asks }
+    requires numbered { All (IsNumbered state.old.numbers.asked)
+        (map plain_question state.old.asks) }
     ensures opened { IfOk result (IsOpened state.old state.new by question.now parted) }
-    ensures mem { state.new.mem ≡ state.old.mem }
     ensures unchanged { OnErr result (state.new ≡ state.old) }
 {
     let Some(ask) = state.numbers.asked.checked_add(1) else {
@@ -144,10 +156,16 @@ fn open<F: FileRef>(
     let parts = parts_of(alloc, &state.mem, state.numbers.next, question)?;
     let again = question.copy()?;
     let (desk, hand) = order(alloc, parts)?;
-    let opened = OpenRead::new(ask, by, parted, again, Pending::new(desk));
-    state.asks.push(opened)?;
+    let asked = AskedRead {
+        number: ask,
+        by,
+        parted,
+        question: again,
+        work: Pending::new(desk),
+    };
+    let holds = state.asks.open(alloc, &mut state.files, asked)?;
     state.numbers.asked = ask;
-    Ok((ask, hand))
+    Ok(NewQuestion { ask, hand, holds })
 }
 
 /// What the question's answer needs.
@@ -210,11 +228,18 @@ fn is_of_now(question: &Question) -> bool
 
 /// Ends the question where its result is kept.
 fn settle<F: FileRef>(alloc: Global, state: &mut State<F>, by: By, ask: u64) -> Verdict
-    ensures note { IsPlain by (settle_act ask (question_of ask state.old.asks)) result }
+    requires set { SetStands F.bytes state.old }
+    ensures note { result.note ≡ settle_note by ask state.old.asks result.reply }
     ensures reply { result.reply ≡ settle_reply (question_of ask state.old.asks) }
     ensures asks { state.new.asks ≡ after_settle ask state.old.asks }
-    ensures step { ClientSteps by state.old state.new result.note }
+    ensures step { ClientSteps F.bytes by state.old state.new result.note }
 {
-    let Settled { act, noted, told } = state.asks.settle(ask);
-    Verdict::new(alloc, by, act, noted, told)
+    let Settled {
+        act,
+        noted,
+        told,
+        hold,
+    } = state.asks.settle(ask);
+    let holds = let_go(alloc, &mut state.files, hold);
+    Verdict::holding(alloc, by, act, holds, noted, told)
 }

@@ -1,20 +1,25 @@
 //! The open questions of an engine, in the order of their numbers.
-ghost use Rattle.std.specs.Prelude.{◌≡◌, ◌<◌, ◌++◌, ◌∷◌, [], All, length, map, IfSome, IsSome, Some, OnOk, OnErr};
+ghost use Rattle.std.specs.Prelude.{◌≡◌, ◌<◌, ◌++◌, ◌∷◌, [], All, length, map, IfOk, IfSome, IsSome, None, Some, OnErr};
 ghost use Rattle.std.specs.Option.{option_copied};
 ghost use Rattle.xdb_lists.specs.Keyed.{IsRising};
 ghost use Rattle.xdb_plain.specs.declared.act.Act.TheVariants as act;
 ghost use Rattle.xdb_rangedel.specs.Content.{IsClear};
 ghost use Rattle.xdb_read.specs.Fits.{mem_content, ReadFits};
-ghost use Rattle.xdb_engine.specs.Questions.{AreAsks, FitsGiven, IsBare, IsPlaceOf, LooksFor, plain_question, question_of, with_result};
-ghost use Rattle.xdb_engine.specs.Ends.{IsSettled, failure, failure_leaves};
+ghost use Rattle.xdb_engine.specs.Questions.{AreAsks, IsPlaceOf, LooksFor, plain_question, question_of, with_result};
+ghost use Rattle.xdb_engine.specs.Ends.{IsSettled, failure, failure_hold, failure_leaves};
+ghost use Rattle.xdb_engine.specs.Holds.{ask_holds};
+ghost use Rattle.xdb_engine.specs.Opening.{IsOpenBehind};
+ghost use Rattle.xdb_vset.specs.Seen.{Seen};
 
 use crate::OpenRead;
-use crate::questions::Settled;
+use crate::holds::hold_current;
+use crate::questions::{AskedRead, Failure, Settled};
 use std::alloc::{AllocError, Global};
 use std::marker::Model;
 use xdb_device::FileRef;
-use xdb_plain::{Act, By, Reply};
+use xdb_plain::{Act, HoldNote, Items, Reply};
 use xdb_read::ReadDone;
+use xdb_vset::VersionSet;
 
 /// As many questions may be open.
 pub const MOST_QUESTIONS: usize = 64;
@@ -64,19 +69,28 @@ impl<F: FileRef> Asks<F> {
         Some(&self.questions[at])
     }
 
-    /// Opens a question behind the others.
-    pub fn push(&mut self, question: OpenRead<F>) -> Result<(), AllocError>
+    /// Opens a question behind the others, which holds the current version, and answers what the note
+    /// of the step tells of that.
+    pub fn open(
+        &mut self,
+        alloc: Global,
+        files: &mut VersionSet<F>,
+        question: AskedRead<F>,
+    ) -> Result<Items<HoldNote>, AllocError>
         requires few { length self.old < 64 }
-        requires last { All (λ q. q.ask < question.ask) self.old }
-        requires bare { IsBare question }
-        requires clear { IsClear (mem_content question.given) }
-        requires fits { FitsGiven F.bytes question }
-        ensures opened { OnOk result (self.new ≡ self.old ++ question ∷ []) }
+        requires last { All (λ q. q.ask < question.number) self.old }
+        requires same { question.question ≡ question.work.given.question }
+        requires bare { question.work.given.tables ≡ [] }
+        requires clear { IsClear (mem_content question.work.given) }
+        requires waits { question.work.kept ≡ None }
+        ensures opened { IfOk result (IsOpenBehind question self.old self.new files.old files.new) }
         ensures unchanged { OnErr result (self.new ≡ self.old) }
+        ensures kept { OnErr result (files.new ≡ files.old) }
     {
         self.questions.try_reserve(1)?;
-        self.questions.push_reserved(question);
-        Ok(())
+        let (hold, taking) = hold_current(alloc, files)?;
+        self.questions.push_reserved(OpenRead::new(question, hold));
+        Ok(taking)
     }
 
     /// Ends the question where its result is kept. It takes no memory.
@@ -94,10 +108,11 @@ impl<F: FileRef> Asks<F> {
         self.questions.remove(at).into_answer()
     }
 
-    /// Ends the question in vain, and answers who tells that and as what. It takes no memory.
-    pub fn fail(&mut self, ask: u64) -> (By, Act)
+    /// Ends the question in vain. It takes no memory.
+    pub fn fail(&mut self, ask: u64) -> Failure
         requires { IsSome (question_of ask self.old) }
-        ensures told { result ≡ failure (question_of ask self.old) }
+        ensures told { (result.by, result.act) ≡ failure (question_of ask self.old) }
+        ensures hold { Some result.hold ≡ failure_hold (question_of ask self.old) }
         ensures leaves { self.new ≡ failure_leaves (question_of ask self.old) self.old }
     {
         let Some(at) = place(&self.questions, ask) else {
@@ -110,6 +125,7 @@ impl<F: FileRef> Asks<F> {
     pub fn look(&mut self, ask: u64) -> bool
         ensures looks { LooksFor F.bytes (question_of ask self.old) self.old self.new result }
         ensures same { map plain_question self.new ≡ map plain_question self.old }
+        ensures holds { (set : Seen F) → ask_holds set self.new ≡ ask_holds set self.old }
     {
         let Some(at) = place(&self.questions, ask) else {
             return false;
@@ -124,6 +140,7 @@ impl<F: FileRef> Asks<F> {
         requires fits { IfSome (question_of ask self.old) (λ q. ReadFits F.bytes q.given done) }
         ensures placed { IfSome (question_of ask self.old) (λ q. self.new ≡ with_result q done self.old) }
         ensures same { map plain_question self.new ≡ map plain_question self.old }
+        ensures holds { (set : Seen F) → ask_holds set self.new ≡ ask_holds set self.old }
     {
         let Some(at) = place(&self.questions, ask) else {
             unreachable!()
@@ -149,7 +166,13 @@ fn early(ask: u64, noted: Reply, told: Reply) -> Settled
     ensures act { result.act ≡ act.Settle ask }
     ensures noted { result.noted ≡ noted }
     ensures told { result.told ≡ told }
+    ensures hold { result.hold ≡ None }
 {
     let act = Act::Settle { ask };
-    Settled { act, noted, told }
+    Settled {
+        act,
+        noted,
+        told,
+        hold: None,
+    }
 }

@@ -86,7 +86,7 @@ fn commit<F: FileRef>(
     requires above { state.old.mem.greatest < state.old.numbers.next }
     requires upto { state.old.numbers.next ≤ 2 ^ 56 }
     ensures note { IsPlain by (act.Commit form batch) result }
-    ensures step { ClientSteps by state.old state.new result.note }
+    ensures step { ClientSteps F.bytes by state.old state.new result.note }
     ensures asks { state.new.asks ≡ state.old.asks }
 {
     let next = state.numbers.next;
@@ -116,7 +116,7 @@ fn act_of(form: CommitForm, batch: Batch) -> Act
 /// Seals the active group where it has operations.
 fn seal<F: FileRef>(alloc: Global, state: &mut State<F>) -> Verdict
     ensures note { IsPlain Db act.Seal result }
-    ensures step { Steps state.old state.new result.note }
+    ensures step { Steps F.bytes 0 state.old state.new result.note }
     ensures asks { state.new.asks ≡ state.old.asks }
 {
     match state.mem.seal() {

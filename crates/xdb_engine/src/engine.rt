@@ -2,7 +2,8 @@
 ghost use Rattle.std.specs.Prelude.{◌≡◌, ◌+◌, ◌*◌, ◌≤◌, ◌^◌, [], false, length, map, All, OnOk, OnErr};
 ghost use Rattle.xdb_plain.specs.Counts.{dead};
 ghost use Rattle.xdb_plain.specs.Failures.{faults, has_damage};
-ghost use Rattle.xdb_plain.specs.Legal.{IsRight};
+ghost use Rattle.xdb_plain.specs.Legal.{IsRight, TellHolds};
+ghost use Rattle.xdb_plain.specs.State.{opening};
 ghost use Rattle.xdb_engine.specs.Files.{AreTold};
 ghost use Rattle.xdb_engine.specs.Questions.{plain_question, FitsGiven, HasNumber};
 ghost use Rattle.xdb_engine.specs.View.{plain_of};
@@ -29,14 +30,14 @@ pub struct Engine<F: FileRef, L: Ledger> {
 
 impl<F: FileRef, L: Ledger> Model for Engine<F, L> {
     ghost use Rattle.xdb_engine.specs.Files.{AreTold};
-    ghost use Rattle.xdb_engine.specs.State.{core_of, Stands};
+    ghost use Rattle.xdb_engine.specs.State.{StateStands};
     ghost use Rattle.xdb_engine.specs.View.{EngineView, engine_view};
 
     ghost Value = { EngineView F };
 
     ghost view = { λ e. engine_view e.history e.state.asks e.book };
 
-    ghost invariant = { λ e. Stands (AreTold F.bytes) (core_of e.state) e.history e.book };
+    ghost invariant = { λ e. StateStands F.bytes (AreTold F.bytes) e.state e.history e.book };
 }
 
 impl<F: FileRef, L: Ledger> Engine<F, L> {
@@ -84,6 +85,8 @@ impl<F: FileRef, L: Ledger> Engine<F, L> {
     pub fn notes(&self) -> &[Note]
         ensures notes { result.now ≡ self.now.notes }
         ensures right { IsRight self.now.first_seq self.now.first_file self.now.notes }
+        // Each note tells the holds of versions that its step takes and lets go.
+        ensures holds { TellHolds (opening self.now.first_seq self.now.first_file) self.now.notes }
         // What the parts of each open question mean is its answer.
         ensures questions { map plain_question self.now.questions ≡ (plain_of self.now).questions }
         // Each has a number that was given, and was asked by a client.
@@ -106,6 +109,7 @@ impl<F: FileRef, L: Ledger> Engine<F, L> {
         ensures notes { result.0.notes ≡ self.notes }
         ensures book { result.1 ≡ self.book }
         ensures right { IsRight self.first_seq self.first_file self.notes }
+        ensures holds { TellHolds (opening self.first_seq self.first_file) self.notes }
         // The notes tell of as many failures of devices as were booked, and of no damage over files
         // that tell their bytes.
         ensures booked { result.1 ≡ faults self.notes }

@@ -5,10 +5,12 @@ ghost use Rattle.xdb_plain.specs.declared.reply.Reply.TheVariants as reply;
 ghost use Rattle.xdb_steps.specs.Notes.{plain_note, is_work};
 ghost use Rattle.xdb_engine.specs.Ends.{lack_note, after_failure};
 ghost use Rattle.xdb_engine.specs.Questions.{question_by};
-ghost use Rattle.xdb_engine.specs.State.{Steps};
+ghost use Rattle.xdb_engine.specs.State.{SetStands, Steps};
 ghost use Rattle.xdb_engine.specs.View.{Adds};
 
+use crate::holds::let_go;
 use crate::notes::Verdict;
+use crate::questions::Failure;
 use crate::state::State;
 use crate::{Engine, Id};
 use std::alloc::Global;
@@ -49,12 +51,14 @@ impl<F: FileRef, L: Ledger> Engine<F, L> {
 /// Ends the question for want of memory.
 fn lack<F: FileRef>(alloc: Global, state: &mut State<F>, id: Id) -> Verdict
     requires there { IsSome (question_by id state.old.asks) }
+    requires set { SetStands F.bytes state.old }
     ensures note { result.note ≡ lack_note id state.old.asks result.reply }
     ensures reply { result.reply ≡ reply.Memory }
     ensures asks { state.new.asks ≡ after_failure id state.old.asks }
-    ensures step { Steps state.old state.new result.note }
+    ensures step { Steps F.bytes 0 state.old state.new result.note }
 {
     let Id::Ask(ask) = id else { unreachable!() };
-    let (by, act) = state.asks.fail(ask);
-    Verdict::new(alloc, by, act, Reply::Memory, Reply::Memory)
+    let Failure { by, act, hold } = state.asks.fail(ask);
+    let holds = let_go(alloc, &mut state.files, Some(hold));
+    Verdict::holding(alloc, by, act, holds, Reply::Memory, Reply::Memory)
 }

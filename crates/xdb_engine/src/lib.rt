@@ -6,6 +6,7 @@ mod asks;
 mod commits;
 mod engine;
 mod failures;
+mod holds;
 mod ids;
 mod notes;
 mod questions;

@@ -1,24 +1,33 @@
 //! An open question, and how it ends.
 ghost use Rattle.std.specs.Prelude.{◌≡◌, Some, is_some, IsSome};
 ghost use Rattle.xdb_read.specs.Fits.{ReadFits};
-ghost use Rattle.xdb_engine.specs.Questions.{asking, with_story, FitsGiven, LooksUnlessKept};
+ghost use Rattle.xdb_engine.specs.Opening.{read_of};
+ghost use Rattle.xdb_engine.specs.Questions.{with_story, FitsGiven, LooksUnlessKept};
 ghost use Rattle.xdb_engine.specs.Ends.{answer_act, answer_of, failure};
 
+use crate::holds::VersionHold;
 use std::marker::Model;
 use xdb_device::FileRef;
 use xdb_order::Pending;
 use xdb_plain::{Act, By, Question, Reply};
 use xdb_read::{ReadDone, ReadParts, ReadWork};
 
+/// A question as it is asked, before it holds its version.
+#[derive(Drop)]
+pub struct AskedRead<F: FileRef> {
+    pub number: u64,
+    pub by: By,
+    pub parted: bool,
+    /// The question once more, for the note of its end.
+    pub question: Question,
+    pub work: Pending<ReadWork<F>>,
+}
+
 /// A question that was asked and has no reply yet.
 #[derive(Drop)]
 pub struct OpenRead<F: FileRef> {
-    number: u64,
-    by: By,
-    parted: bool,
-    /// The question once more, for the note of its end.
-    question: Question,
-    work: Pending<ReadWork<F>>,
+    asked: AskedRead<F>,
+    hold: VersionHold,
 }
 
 impl<F: FileRef> Model for OpenRead<F> {
@@ -27,50 +36,48 @@ impl<F: FileRef> Model for OpenRead<F> {
 
     ghost Value = { Asking F };
 
-    ghost view = { λ q. asking q.number q.by q.parted q.work.given q.work.story q.work.kept };
+    ghost view = { λ q. let a = q.asked in
+        asking a.number a.by a.parted a.work.given q.hold a.work.story a.work.kept };
 
-    ghost invariant = { λ q. q.question ≡ q.work.given.question };
+    ghost invariant = { λ q. q.asked.question ≡ q.asked.work.given.question };
 }
 
-/// What comes of a settle: the act of its note, and its reply twice.
-#[derive(Debug, Drop)]
+/// What comes of a settle: the act of its note, its reply twice, and the hold that the question had.
+#[derive(Drop)]
 pub struct Settled {
     pub act: Act,
     pub noted: Reply,
     pub told: Reply,
+    pub hold: Option<VersionHold>,
+}
+
+/// What comes of a question that ends in vain: who tells that and as what, and the hold that it had.
+#[derive(Drop)]
+pub struct Failure {
+    pub by: By,
+    pub act: Act,
+    pub hold: VersionHold,
 }
 
 impl<F: FileRef> OpenRead<F> {
     /// Its desk hasn't looked for the result yet, or in vain.
-    pub fn new(
-        number: u64,
-        by: By,
-        parted: bool,
-        question: Question,
-        work: Pending<ReadWork<F>>,
-    ) -> Self
-        requires { question ≡ work.given.question }
-        ensures { result ≡ asking number by parted work.given work.story work.kept }
+    pub fn new(asked: AskedRead<F>, hold: VersionHold) -> Self
+        requires { asked.question ≡ asked.work.given.question }
+        ensures { result ≡ read_of asked hold }
     {
-        OpenRead {
-            number,
-            by,
-            parted,
-            question,
-            work,
-        }
+        OpenRead { asked, hold }
     }
 
     pub fn number(&self) -> u64
         ensures { result ≡ self.now.ask }
     {
-        self.number
+        self.asked.number
     }
 
     pub fn given(&self) -> &ReadParts<F>
         ensures { result.now ≡ self.now.given }
     {
-        self.work.given()
+        self.asked.work.given()
     }
 
     /// Whether its result is kept.
@@ -78,7 +85,7 @@ impl<F: FileRef> OpenRead<F> {
         ensures kept { result ≡ is_some self.now.kept }
         ensures fits { FitsGiven F.bytes self.now }
     {
-        self.work.is_kept()
+        self.asked.work.is_kept()
     }
 
     /// Looks for the result where none is kept, and answers whether one is kept then. It never waits.
@@ -88,7 +95,7 @@ impl<F: FileRef> OpenRead<F> {
         ensures tells { result ≡ is_some self.new.kept }
         ensures fits { FitsGiven F.bytes self.new }
     {
-        self.work.arrived()
+        self.asked.work.arrived()
     }
 
     /// Keeps a result.
@@ -98,7 +105,7 @@ impl<F: FileRef> OpenRead<F> {
         ensures same { self.new ≡ with_story self.old self.new.story self.new.kept }
         ensures fits { FitsGiven F.bytes self.new }
     {
-        self.work.bring(done);
+        self.asked.work.bring(done);
     }
 
     /// Ends it with its answer, where its result is kept.
@@ -107,14 +114,16 @@ impl<F: FileRef> OpenRead<F> {
         ensures act { result.act ≡ answer_act self }
         ensures noted { result.noted ≡ answer_of self.kept }
         ensures told { result.told ≡ answer_of self.kept }
+        ensures hold { result.hold ≡ Some self.hold }
     {
-        let OpenRead {
+        let OpenRead { asked, hold } = self;
+        let AskedRead {
             number,
             parted,
             question,
             work,
             ..
-        } = self;
+        } = asked;
         let Some(done) = work.into_kept() else {
             unreachable!()
         };
@@ -131,29 +140,37 @@ impl<F: FileRef> OpenRead<F> {
             act,
             noted: Reply::Answered(done.answer),
             told: Reply::Answered(done.again),
+            hold: Some(hold),
         }
     }
 
-    /// Ends it in vain, and answers who tells that and as what.
-    pub fn into_failure(self) -> (By, Act)
-        ensures { result ≡ failure (Some self) }
+    /// Ends it in vain.
+    pub fn into_failure(self) -> Failure
+        ensures told { (result.by, result.act) ≡ failure (Some self) }
+        ensures hold { result.hold ≡ self.hold }
     {
-        let OpenRead {
+        let OpenRead { asked, hold } = self;
+        let AskedRead {
             number,
             by,
             parted,
             question,
             ..
-        } = self;
+        } = asked;
         if parted {
-            (By::Db, Act::Work { ask: number })
+            let act = Act::Work { ask: number };
+            Failure {
+                by: By::Db,
+                act,
+                hold,
+            }
         } else {
             let act = Act::Ask {
                 ask: number,
                 question,
                 parted,
             };
-            (by, act)
+            Failure { by, act, hold }
         }
     }
 }

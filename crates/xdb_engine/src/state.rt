@@ -1,11 +1,13 @@
 //! The parts of an engine beside its history, by topic.
 ghost use Rattle.std.specs.Prelude.{◌≡◌, []};
 ghost use Rattle.xdb_mem.specs.Queue.{opening};
+ghost use Rattle.xdb_engine.specs.Files.{first_set};
 
 use crate::asks::Asks;
 use std::alloc::Global;
 use xdb_device::FileRef;
 use xdb_mem::MemQueue;
+use xdb_vset::VersionSet;
 
 /// Numbers that are given in order.
 #[derive(Debug, Drop)]
@@ -26,6 +28,8 @@ pub struct State<F: FileRef> {
     pub numbers: Numbers,
     /// The open questions.
     pub asks: Asks<F>,
+    /// The versions that are in use, and the files of their tables.
+    pub files: VersionSet<F>,
 }
 
 impl<F: FileRef> State<F> {
@@ -36,6 +40,7 @@ impl<F: FileRef> State<F> {
         ensures file { result.numbers.file ≡ file }
         ensures asked { result.numbers.asked ≡ 0 }
         ensures asks { result.asks ≡ [] }
+        ensures files { result.files ≡ first_set }
     {
         State {
             mem: MemQueue::new(alloc),
@@ -45,6 +50,7 @@ impl<F: FileRef> State<F> {
                 asked: 0,
             },
             asks: Asks::new(alloc),
+            files: VersionSet::new(alloc),
         }
     }
 }

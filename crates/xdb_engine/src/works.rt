@@ -2,6 +2,8 @@
 ghost use Rattle.std.specs.Prelude.{◌≡◌, [], None, Some, map, IfSome, IsSome};
 ghost use Rattle.std.specs.Option.{option_map, option_copied};
 ghost use Rattle.xdb_read.specs.Fits.{ReadFits};
+ghost use Rattle.xdb_vset.specs.Seen.{Seen};
+ghost use Rattle.xdb_engine.specs.Holds.{ask_holds};
 ghost use Rattle.xdb_engine.specs.Questions.{AreAsks, is_kept, parts_by, plain_question, question_by, with_result, LooksBy};
 ghost use Rattle.xdb_engine.specs.View.{with_questions, lent_parts, FitsQuestion, IsBroughtTo};
 
@@ -77,6 +79,7 @@ fn find<F: FileRef>(asks: &Asks<F>, id: Id) -> Option<&OpenRead<F>>
 fn look<F: FileRef>(asks: &mut Asks<F>, id: Id) -> bool
     ensures looks { LooksBy F.bytes id asks.old asks.new result }
     ensures same { map plain_question asks.new ≡ map plain_question asks.old }
+    ensures holds { (set : Seen F) → ask_holds set asks.new ≡ ask_holds set asks.old }
 {
     match id {
         Id::Ask(ask) => asks.look(ask),
@@ -89,6 +92,7 @@ fn bring<F: FileRef>(asks: &mut Asks<F>, id: Id, done: ReadDone)
     requires fits { IfSome (question_by id asks.old) (λ q. ReadFits F.bytes q.given done) }
     ensures placed { IfSome (question_by id asks.old) (λ q. asks.new ≡ with_result q done asks.old) }
     ensures same { map plain_question asks.new ≡ map plain_question asks.old }
+    ensures holds { (set : Seen F) → ask_holds set asks.new ≡ ask_holds set asks.old }
 {
     let Id::Ask(ask) = id else { unreachable!() };
     asks.bring(ask, done);

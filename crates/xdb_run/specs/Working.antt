@@ -1,8 +1,7 @@
 -- How work that is under way ends.
 use Rattle.std.specs.Prelude.{◌≡◌, ℕ, true, List, Option, Some, None, Result, is_some, IfOk}
 use Rattle.std.specs.declared.alloc.AllocError.{AllocError}
-use Rattle.xdb_steps.specs.Notes.{plain_note}
-use Rattle.xdb_engine.specs.Ends.{failure_act, failure_by}
+use Rattle.xdb_engine.specs.Ends.{failure_note}
 use Rattle.xdb_engine.specs.Questions.{Asking, with_result, without}
 use Rattle.xdb_engine.specs.View.{EngineView, Adds, with_questions}
 use Rattle.xdb_plain.specs.declared.reply.Reply.TheVariants.{Memory}
@@ -30,7 +29,7 @@ module _ {F : Type 0} (bytes : F → Option (List ℕ)) where
   -- An allocation failed in the work on a question that had no result: a note tells so, and the question is gone.
   pub record Lacks (q : Asking F) (old new : EngineView F) : Type 0 where
     pub waits : q.kept ≡ None
-    pub note : Adds old new (plain_note (failure_by q) (failure_act q) Memory)
+    pub note : Adds old new (failure_note (Some q) Memory)
     pub leaves : new.questions ≡ without q.ask old.questions
 
   -- How the work on a question ends. Without one, or where its result is kept already, there is none to do.

@@ -11,4 +11,4 @@ returns-clause-step g c =
     let added : c.commit.new.self ≡ committed s.numbers.next c.args.batch s.mem = search rules in
     let room : s.numbers.next + length c.args.batch ≤ 2 ^ 56 = search rules in
     let is = c.new-2.ensures.note ∙ (λ i. plain_note c.args.by (c.act_of-act-2.ensures i) (c.new-2.ensures.reply i)) in
-    committed-steps s c.commit.new.self (length c.ops.result.now) c.args.by c.args.form c.args.batch c.new-2.result.note is added (ap length c.ops.ensures.ops) room
+    committed-steps s g.F.FileRef.bytes c.commit.new.self (length c.ops.result.now) c.args.by c.args.form c.args.batch c.new-2.result.note is added (ap length c.ops.ensures.ops) room

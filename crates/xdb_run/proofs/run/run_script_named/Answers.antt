@@ -1,5 +1,5 @@
 -- The lines' blocks, an empty drain, and a book in which nothing is.
-use Rattle.std.proofs.Common.{◌≡◌, true, [], sum, refl, sym, ap, ◌∙◌, subst}
+use Rattle.std.proofs.Common.{◌≡◌, true, [], sum, sym, ap, ◌∙◌, subst}
 use Rattle.std.specs.List.{list_all}
 use Rattle.xdb_plain.specs.Failures.{faults}
 use Rattle.xdb_run.specs.Built.{is_run}

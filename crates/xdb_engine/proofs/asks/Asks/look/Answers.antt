@@ -1,6 +1,6 @@
 -- The question at the place looks for its result.
 use Rattle.std.proofs.Common.{sym}
-use Rattle.xdb_engine.proofs.AskLaws.{set-asks, set-plain, looks}
+use Rattle.xdb_engine.proofs.AskLaws.{set-asks, set-holds, set-plain, looks}
 use Rattle.xdb_engine.proofs.asks.Asks.look.Goals as goal
 
 pub invariant_of-self : goal.invariant_of-self
@@ -20,3 +20,9 @@ returns-clause-same g c =
     let place = rw (c.deref.ensures.value, c.in-Some.is) at c.place.ensures in
     let e = c.arrived.ensures in
     rw (← c.self.view_is) (set-plain g.F.FileRef.bytes c.args.ask c.in-Some.at c.self.inside.questions.items c.index_mut-question.result.now c.self.invariant place (sym c.index_mut-question.ensures.value) c.arrived.new.self e.same e.fits)
+
+pub returns-clause-holds : goal.returns-clause-holds
+returns-clause-holds g c =
+    let place = rw (c.deref.ensures.value, c.in-Some.is) at c.place.ensures in
+    let e = c.arrived.ensures in
+    λ s. rw (← c.self.view_is) (set-holds g.F.FileRef.bytes c.args.ask c.in-Some.at c.self.inside.questions.items c.index_mut-question.result.now c.self.invariant place (sym c.index_mut-question.ensures.value) c.arrived.new.self e.same e.fits s)

@@ -10,7 +10,7 @@ returns-then-not-is_kept g c =
     let place = rw (c.deref.ensures.value, c.in-Some.is) at c.place.ensures in
     let e = c.early-then-not-is_kept.ensures in
     rw (← c.self.view_is) (record {
-      settled = settled-early g.F.FileRef.bytes c.args.ask c.in-Some.at c.self.inside.questions.items c.index.result.now c.self.invariant place (sym c.index.ensures) c.early-then-not-is_kept.result (sym c.is_kept.ensures.kept ∙ c.if-not-is_kept.true) e.act e.noted e.told;
+      settled = settled-early g.F.FileRef.bytes c.args.ask c.in-Some.at c.self.inside.questions.items c.index.result.now c.self.invariant place (sym c.index.ensures) c.early-then-not-is_kept.result (sym c.is_kept.ensures.kept ∙ c.if-not-is_kept.true) e.act e.noted e.told e.hold;
       asks = c.self.invariant;
     })
 
@@ -25,4 +25,4 @@ returns-clause-settled g c =
     let items = c.self.inside.questions.items in
     let same = same-place g.F.FileRef.bytes c.args.ask c.in-Some.at items c.remove.result c.self.invariant place (sym c.remove.ensures.value) c.index.result.now (sym c.index.ensures) in
     let e = c.into_answer.ensures in
-    rw (← c.self.view_is, c.remove.ensures.items) (settled-answered g.F.FileRef.bytes c.args.ask c.in-Some.at items c.remove.result c.self.invariant place (sym c.remove.ensures.value) c.into_answer.result (ap (λ x. is_some x.kept) (sym same) ∙ sym c.is_kept.ensures.kept ∙ c.if-not-is_kept.false) e.act e.noted e.told)
+    rw (← c.self.view_is, c.remove.ensures.items) (settled-answered g.F.FileRef.bytes c.args.ask c.in-Some.at items c.remove.result c.self.invariant place (sym c.remove.ensures.value) c.into_answer.result (ap (λ x. is_some x.kept) (sym same) ∙ sym c.is_kept.ensures.kept ∙ c.if-not-is_kept.false) e.act e.noted e.told e.hold)

@@ -8,5 +8,5 @@ use Rattle.xdb_engine.proofs.engine.Engine.notes.Goals as goal
 pub returns-clause-numbered : goal.returns-clause-numbered
 returns-clause-numbered g c =
     let s = c.self.inside.state in
-    let a = c.self.invariant.agrees in
+    let a = c.self.invariant.stands.agrees in
     rw (← c.self.view_is) (subst (λ n. All (λ q. IsNumbered n (plain_question q)) s.asks) (sym a.numbers.asked) (numbered-asks s.numbers.asked s.asks a.asks.numbered))

@@ -1,0 +1,8 @@
+-- The plain questions and their holds stay.
+use Rattle.xdb_engine.proofs.StateLaws.{state-looked}
+use Rattle.xdb_engine.proofs.engine.Engine.arrived.Goals as goal
+
+pub invariant_of-self : goal.invariant_of-self
+invariant_of-self g c =
+    let e = c.self.inside in
+    state-looked g.F.FileRef.bytes e.state c.look.new.asks c.look.ensures.same c.look.ensures.holds e.history e.book c.self.invariant
