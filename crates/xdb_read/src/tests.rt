@@ -438,10 +438,10 @@ fn file(alloc: Global, num: u64, table: &Table, damaged: bool) -> Result<MemFile
     Ok(dev.create(num, &bytes)?)
 }
 
-fn meta(alloc: Global, num: u64, seen: Cut) -> Result<TableMeta, Fail>
-    requires number { 1 ≤ num }
-    requires small { num < 2 ^ 56 }
-{
+fn meta(alloc: Global, num: u64, seen: Cut) -> Result<TableMeta, Fail> {
+    if num == 0 || num >= 1 << 56 {
+        return Err(Fail::from("no number"));
+    }
     let number = u64::from(seen.2);
     let extent = Extent::new(range(alloc, seen.0, seen.1)?, number, number);
     if !is_synthetic(number, number, number) {
