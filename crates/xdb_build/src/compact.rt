@@ -1,5 +1,5 @@
 //! A compaction: what tables have, written anew.
-ghost use Rattle.std.specs.Prelude.{◌≡◌, ◌⊎◌, [], IfOk, IfErr, OnErr, OnOk, IsErrOf};
+ghost use Rattle.std.specs.Prelude.{◌≡◌, [], IfOk, IfErr, OnErr, OnOk, IsErrOf};
 ghost use Rattle.xdb_device.specs.Counted.{Counted};
 ghost use Rattle.xdb_work.specs.Work.{nums_of, tried_by, IsStopped, AreFirst, Tried, AreHeld};
 ghost use Rattle.xdb_build.specs.Compacting.{IsLeft, IsCompacted};
@@ -38,7 +38,8 @@ pub fn build_compact<D: Device>(
     ensures first { AreFirst (reserved given.now) (tried_by (λ out. nums_of out.files) result) }
     ensures told { Tried (reserved given.now) (tried_by (λ out. nums_of out.files) result)
         (IsStopped WorkCause.Memory result) (D.told dev.old) (D.told dev.new) }
-    ensures held { IfOk result (λ out. AreHeld D.File.size D.File.bytes (D.told dev.new).holds out.files) }
+    ensures held { IfOk result (λ out. AreHeld D.File.size D.File.bytes (D.told dev.new).holds
+        out.files) }
 {
     let mut made = Progress {
         tables: Vec::new(alloc),

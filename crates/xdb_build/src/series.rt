@@ -1,5 +1,5 @@
 //! The outputs of a compaction, one after another.
-ghost use Rattle.std.specs.Prelude.{◌≡◌, ◌⊎◌, ℕ, List, [], ◌∷◌, ◌++◌, ◌+◌, ◌-◌, ◌<◌, ◌≤◌, true, length, map, take, drop, Some, IfOk, OnOk, OnErr, IsErrOf, IsTrue};
+ghost use Rattle.std.specs.Prelude.{◌≡◌, ◌⊎◌, ℕ, List, [], ◌∷◌, ◌++◌, ◌+◌, ◌-◌, ◌<◌, ◌≤◌, true, length, map, drop, Some, IfOk, OnOk, OnErr, IsErrOf, IsTrue};
 ghost use Rattle.std.specs.List.{slice_get};
 ghost use Rattle.xdb_device.specs.Counted.{Counted};
 ghost use Rattle.xdb_device.specs.Told.{Told};
@@ -47,9 +47,10 @@ pub fn write_outputs<D: Device>(
     requires no_tables { made.old.tables.items ≡ [] }
     requires no_files { made.old.files.items ≡ [] }
     requires none_tried { made.old.tried.items ≡ [] }
-    ensures written { OnOk result (AreWritten D.File.size D.File.bytes given.now entries.now spans.now
-        made.new (D.told dev.old) (D.told dev.new)) }
-    ensures cause { OnErr result (IsErrOf result WorkCause.Fault ⊎ IsErrOf result WorkCause.Memory) }
+    ensures written { OnOk result (AreWritten D.File.size D.File.bytes given.now entries.now
+        spans.now made.new (D.told dev.old) (D.told dev.new)) }
+    ensures cause { OnErr result (IsErrOf result WorkCause.Fault
+        ⊎ IsErrOf result WorkCause.Memory) }
     ensures counted { Counted D.faults D.misses D.frame dev.old dev.new
         (IsErrOf result WorkCause.Fault) }
     ensures stops { OnErr result (Stops (reserved given.now) made.new.tried.items
@@ -84,14 +85,17 @@ fn write_next<D: Device>(
     requires ends { EndsFrom entries.now from true to }
     requires inside { to < length entries.now }
     ensures goes { OnOk result ((g : Given D.File) (start : Told) → num + 1 < g.first + g.count
-        → BeginsAt D.File.size D.File.bytes g entries.now spans.now from num made.old start (D.told dev.old)
+        → BeginsAt D.File.size D.File.bytes g entries.now spans.now from num made.old
+        start (D.told dev.old)
         → BeginsAt D.File.size D.File.bytes g entries.now spans.now to (num + 1) made.new
         start (D.told dev.new)) }
-    ensures cause { OnErr result (IsErrOf result WorkCause.Fault ⊎ IsErrOf result WorkCause.Memory) }
+    ensures cause { OnErr result (IsErrOf result WorkCause.Fault
+        ⊎ IsErrOf result WorkCause.Memory) }
     ensures counted { Counted D.faults D.misses D.frame dev.old dev.new
         (IsErrOf result WorkCause.Fault) }
     ensures stops { OnErr result ((g : Given D.File) (start : Told)
-        → BeginsAt D.File.size D.File.bytes g entries.now spans.now from num made.old start (D.told dev.old)
+        → BeginsAt D.File.size D.File.bytes g entries.now spans.now from num made.old
+        start (D.told dev.old)
         → Stops (reserved g) made.new.tried.items (IsErrOf result WorkCause.Memory)
         start (D.told dev.new)) }
 {
@@ -115,13 +119,17 @@ fn write_last<D: Device>(
     requires inside { (from ≡ 0) ⊎ (from < length entries.now) }
     ensures written { OnOk result ((g : Given D.File) (start : Told)
         → (2 ≤ g.count - (num - g.first) → IsOpen (map entry_of (drop from entries.now)))
-        → BeginsAt D.File.size D.File.bytes g entries.now spans.now from num made.old start (D.told dev.old)
-        → AreWritten D.File.size D.File.bytes g entries.now spans.now made.new start (D.told dev.new)) }
-    ensures cause { OnErr result (IsErrOf result WorkCause.Fault ⊎ IsErrOf result WorkCause.Memory) }
+        → BeginsAt D.File.size D.File.bytes g entries.now spans.now from num made.old
+        start (D.told dev.old)
+        → AreWritten D.File.size D.File.bytes g entries.now spans.now made.new
+        start (D.told dev.new)) }
+    ensures cause { OnErr result (IsErrOf result WorkCause.Fault
+        ⊎ IsErrOf result WorkCause.Memory) }
     ensures counted { Counted D.faults D.misses D.frame dev.old dev.new
         (IsErrOf result WorkCause.Fault) }
     ensures stops { OnErr result ((g : Given D.File) (start : Told)
-        → BeginsAt D.File.size D.File.bytes g entries.now spans.now from num made.old start (D.told dev.old)
+        → BeginsAt D.File.size D.File.bytes g entries.now spans.now from num made.old
+        start (D.told dev.old)
         → Stops (reserved g) made.new.tried.items (IsErrOf result WorkCause.Memory)
         start (D.told dev.new)) }
 {
@@ -183,12 +191,14 @@ fn add_output<D: Device>(
     requires some { 1 ≤ length entries.now + length spans.now }
     ensures more { OnOk result (IsOneMore D.File.size D.File.bytes num
         (content_of entries.now spans.now) made.old made.new (D.told dev.old) (D.told dev.new)) }
-    ensures cause { OnErr result (IsErrOf result WorkCause.Fault ⊎ IsErrOf result WorkCause.Memory) }
+    ensures cause { OnErr result (IsErrOf result WorkCause.Fault
+        ⊎ IsErrOf result WorkCause.Memory) }
     ensures counted { Counted D.faults D.misses D.frame dev.old dev.new
         (IsErrOf result WorkCause.Fault) }
     ensures stops { OnErr result ((reserved : List ℕ) (i : ℕ) (start : Told) → IsNext reserved i num
         → Tries reserved i made.old.tried.items start (D.told dev.old)
-        → Stops reserved made.new.tried.items (IsErrOf result WorkCause.Memory) start (D.told dev.new)) }
+        → Stops reserved made.new.tried.items (IsErrOf result WorkCause.Memory)
+        start (D.told dev.new)) }
 {
     made.tables.try_reserve(1)?;
     made.files.try_reserve(1)?;
@@ -212,7 +222,8 @@ fn write_output<D: Device>(
     requires some { 1 ≤ length entries.now + length spans.now }
     ensures output { IfOk result (λ made. IsOutput D.File.size D.File.bytes num
         (content_of entries.now spans.now) made.0 (num, made.1)) }
-    ensures cause { OnErr result (IsErrOf result WorkCause.Fault ⊎ IsErrOf result WorkCause.Memory) }
+    ensures cause { OnErr result (IsErrOf result WorkCause.Fault
+        ⊎ IsErrOf result WorkCause.Memory) }
     ensures counted { Counted D.faults D.misses D.frame dev.old dev.new
         (IsErrOf result WorkCause.Fault) }
     ensures goes { OnOk result ((reserved : List ℕ) (i : ℕ) (start : Told) → IsNext reserved i num

@@ -1,5 +1,7 @@
 // What no clause says: that a build answers anything but want of memory where memory is ample, and what thinned tables
 // are in examples.
+mod compactions;
+
 use crate::cuts::output_end;
 use crate::gather::gathered;
 use crate::{Built, FlushWork, JobParts, build_flush};
