@@ -1,12 +1,12 @@
 -- Where an output ends among entries in internal order.
-use Rattle.std.proofs.Common.{◌≡◌, ℕ, zero, suc, ◌+◌, ◌-◌, ◌<◌, ◌≤◌, Bool, true, false, cond, List, [], ◌∷◌, ◌++◌, length, get_or, take, drop, map, sum, Option, Some, None, IsTrue, inl, inr, ◌⊎◌, not, refl, sym, ap, ◌∙◌, subst, arith, append-nil}
+use Rattle.std.proofs.Common.{◌≡◌, ℕ, zero, suc, ◌+◌, ◌-◌, ◌<◌, ◌≤◌, Bool, true, false, cond, List, [], ◌∷◌, ◌++◌, length, get_or, take, drop, map, sum, Option, Some, IsTrue, inl, inr, ◌⊎◌, not, refl, sym, ap, ◌∙◌, subst, arith, append-nil}
 use Rattle.std.proofs.lemmas.Bool.{cases_Bool, cases_lt, false≢true}
 use Rattle.std.proofs.Math.Seq.{take-append_seam}
 use Rattle.std.proofs.lemmas.List.{take_more, map-append, length-take-le, length-drop}
 use Rattle.std.proofs.lemmas.List.Elements.{filter-append}
 use Rattle.std.proofs.lemmas.List.Sums.{sum_by-append, sum_by-cons}
 use Rattle.std.proofs.lemmas.Option.{get_or_from_slice_get, slice_get_within}
-use Rattle.std.specs.List.{filter, AllPairs, slice_get}
+use Rattle.std.specs.List.{filter, slice_get}
 use Rattle.xdb_key.proofs.InOrderLaws.{before_keys}
 use Rattle.xdb_key.proofs.OrderLaws.{below-itself, upto-itself, below_upto, upto_below, upto_antisymm, upto-not_below}
 use Rattle.xdb_key.specs.Entries.{Point}
@@ -14,8 +14,8 @@ use Rattle.xdb_key.specs.InOrder.{comes_before, AreInOrder}
 use Rattle.xdb_key.specs.Order.{is_below, is_upto}
 use Rattle.xdb_mem.proofs.ListLaws.{AllPairs-take}
 use Rattle.xdb_rangedel.proofs.FragmentLaws.{All-at_Has, AllPairs-head, AllPairs-tail}
-use Rattle.xdb_rangedel.proofs.MemberLaws.{Has-append_cases, Has-append_left, Has-append_right, Has-map, Has-from_map, Has-get_or, Contains-from_Has}
-use Rattle.xdb_rangedel.specs.Content.{Item, entry, span, entry_of}
+use Rattle.xdb_rangedel.proofs.MemberLaws.{Has-append_cases, Has-append_right, Has-map, Has-from_map, Has-get_or, Contains-from_Has}
+use Rattle.xdb_rangedel.specs.Content.{Item, entry, entry_of}
 use Rattle.xdb_rangedel.specs.Members.{Has}
 use Rattle.xdb_build.specs.Cuts.{weight, weight_of, is_before, weight_before, IsFull, IsOpen}
 use Rattle.xdb_build.specs.Series.{AreBefore, EndsAt, EndsFrom, Weighs, FillsTo}

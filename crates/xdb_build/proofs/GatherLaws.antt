@@ -29,7 +29,6 @@ use Rattle.xdb_rangedel.specs.Clip.{later_of, earlier_of, starting_from, ending_
 use Rattle.xdb_rangedel.specs.Content.{Item, entry, span, IsClear, entries_in, spans_in, in_pieces, entry_of, content_of, value_at}
 use Rattle.xdb_rangedel.specs.Members.{Has, SameMembers}
 use Rattle.xdb_rangedel.specs.Pieces.{pieces, is_ordered, AreFragments}
-use Rattle.xdb_rangedel.specs.View.{lies_in}
 use Rattle.xdb_rangedel.proofs.CoverLaws.{upto-later_of, below-earlier_of}
 use Rattle.xdb_rangedel.proofs.FragmentLaws.{All-at_Has, All-from_Has}
 use Rattle.xdb_rangedel.proofs.MemberLaws.{Has-append_left, Has-append_right, Has-append_cases, Has-map, Has-from_map, Has-from_filter_map, Has-from_Contains, Contains-from_Has, Has-get_or}
@@ -37,7 +36,7 @@ use Rattle.xdb_rangedel.proofs.PieceLaws.{pieces-tell}
 use Rattle.xdb_rangedel.proofs.SpanLaws.{Has-entries_in, Has-spans_in, entries_in-keeps, spans_in-keeps}
 use Rattle.xdb_rangedel.proofs.StripLaws.{same_after_sort}
 use Rattle.xdb_table_r.specs.Cursors.{Walk}
-use Rattle.xdb_table_r.specs.Views.{Shown, keys_of, span_for, spans_in as spans_shown}
+use Rattle.xdb_table_r.specs.Views.{Shown, keys_of, span_for}
 use Rattle.xdb_table_r.specs.declared.error.TableNo.{TableNo}
 use Rattle.xdb_table_r.specs.declared.error.TableNo.TheVariants.{ReadFault, Damaged, Memory}
 use Rattle.xdb_build.specs.Gathered.{LiesInOne, IsGathered}

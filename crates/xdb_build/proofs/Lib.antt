@@ -8,5 +8,8 @@ pub mod SeriesLaws
 pub mod TryLaws
 pub mod StepLaws
 pub mod WayLaws
+pub mod PlaceLaws
+pub mod TurnLaws
+pub mod CompactLaws
 pub mod ShownLaws
 pub mod GatherLaws

@@ -21,7 +21,7 @@ use Rattle.xdb_table_r.specs.Reaches.{IsInside, IsLeast}
 at_member : {A : Type 0} (P : A → Type 0) (xs : List A) (x : A) → AllByRecursion P xs → Has xs x → P x
 at_member P xs x all has = All-at_Has P xs x (All-from_recursion P xs all) has
 
-hull_end : (hi k : List ℕ) → is_below k hi ≡ true → is_upto (successor k) hi ≡ true
+pub hull_end : (hi k : List ℕ) → is_below k hi ≡ true → is_upto (successor k) hi ≡ true
 hull_end hi k h = upto-not_below (successor k) hi ∙ ap not (below-successor hi k ∙ upto-not_below hi k ∙ ap not h)
 
 -- numbers that are small, so that rows tell them

@@ -1,12 +1,12 @@
 -- Tables that hold entries and spans one after another: what follows for all of them.
-use Rattle.std.proofs.Common.{◌≡◌, ℕ, zero, suc, ◌+◌, ◌-◌, ◌<◌, ◌≤◌, Bool, true, false, ◌&&◌, cond, List, [], ◌∷◌, ◌++◌, length, take, drop, map, Option, Some, None, IfSome, IsSome, IsTrue, inl, inr, ◌⊎◌, refl, sym, ap, ◌∙◌, subst, arith, append_assoc, append-nil, not}
+use Rattle.std.proofs.Common.{◌≡◌, ℕ, zero, suc, ◌+◌, ◌-◌, ◌<◌, ◌≤◌, true, false, cond, List, [], ◌∷◌, ◌++◌, length, take, drop, map, Option, Some, None, IfSome, IsSome, IsTrue, inl, inr, ◌⊎◌, refl, sym, ap, ◌∙◌, subst, arith, append_assoc, append-nil, not}
 use Rattle.std.proofs.lemmas.Bool.{cases_Bool, and_from, and_parts, and_left, and_right, false≢true}
 use Rattle.std.proofs.lemmas.List.{map-append}
 use Rattle.std.proofs.lemmas.List.Elements.{All-nil, filter-append}
 use Rattle.std.proofs.lemmas.List.Kept.{AllPairs-cons}
 use Rattle.std.proofs.lemmas.Option.{cond_some}
-use Rattle.std.specs.List.{AllByRecursion, AllPairs, flat_map, filter, range_with_len}
-use Rattle.xdb_halves.specs.Beside.{item_reach, IsExtent}
+use Rattle.std.specs.List.{AllByRecursion, flat_map, filter, range_with_len}
+use Rattle.xdb_halves.specs.Beside.{item_reach}
 use Rattle.xdb_key.proofs.InOrderLaws.{before_keys}
 use Rattle.xdb_key.proofs.OrderLaws.{below-itself, upto-itself, upto-not_below, upto_from_below, upto_trans, upto_antisymm, below_upto, upto_below, below-successor}
 use Rattle.xdb_key.specs.Bounds.{Bounds, bounds, key_hull, successor}
@@ -14,7 +14,7 @@ use Rattle.xdb_key.specs.Entries.{Point, Tombstone, tombstone, Reach, reach}
 use Rattle.xdb_key.specs.InOrder.{comes_before, AreInOrder}
 use Rattle.xdb_key.specs.Order.{is_below, is_upto}
 use Rattle.xdb_meta.specs.Table.{Table}
-use Rattle.xdb_rangedel.proofs.FragmentLaws.{All-at_Has, All-from_Has, AllPairs-head, AllPairs-tail, AreFragments-parts_before, AreFragments-parts_from}
+use Rattle.xdb_rangedel.proofs.FragmentLaws.{All-at_Has, All-from_Has, AllPairs-head, AllPairs-tail, AreFragments-parts_from}
 use Rattle.xdb_rangedel.proofs.MemberLaws.{Has-append_cases, Has-append_left, Has-append_right, Has-map, Has-from_map, Has-filter_map, Has-from_filter_map}
 use Rattle.xdb_rangedel.specs.Clip.{later_of, earlier_of, starting_from, ending_by, part_before, part_from, parts_before, parts_from}
 use Rattle.xdb_rangedel.specs.Content.{Item, entry, span, entry_of, value_at, content_of}
@@ -22,8 +22,8 @@ use Rattle.xdb_rangedel.specs.Members.{Has, SameMembers}
 use Rattle.xdb_rangedel.specs.Pieces.{splits, cut_span, cut_spans, cut_all, is_ordered, AreFragments}
 use Rattle.xdb_build.proofs.CutLaws.{weight-append, weight-cons}
 use Rattle.xdb_build.specs.Cuts.{weight_of, is_before, IsFull, IsOpen}
-use Rattle.xdb_build.specs.Outputs.{IsInFile, IsReachOf, Pairwise, AreApart, reach_of, file_content, content_told, contents, AreTold, cuts, cut_at, BeginsWithEntry}
-use Rattle.xdb_build.specs.Series.{AreBefore, IsCut, IsOutput, AreOutputs}
+use Rattle.xdb_build.specs.Outputs.{IsInFile, IsReachOf, Pairwise, AreApart, file_content, content_told, contents, AreTold, cuts, BeginsWithEntry}
+use Rattle.xdb_build.specs.Series.{AreBefore, IsCut, AreOutputs}
 
 -- ---- cutting spans at bounds
 
@@ -289,7 +289,7 @@ module _ {F : Type 0} (size : F → ℕ) (bytes : F → Option (List ℕ)) where
 
   -- ---- contents that are told
 
-  told_is : (known : Option (List ℕ)) (c : List Item) → IsSome known → IfSome known (λ b. file_content b ≡ c) → content_told known ≡ c
+  pub told_is : (known : Option (List ℕ)) (c : List Item) → IsSome known → IfSome known (λ b. file_content b ≡ c) → content_told known ≡ c
   told_is None c some is = absurd (false≢true some)
   told_is (Some b) c some is = is
 

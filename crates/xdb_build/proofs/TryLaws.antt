@@ -1,7 +1,5 @@
 -- The reserved numbers are tried one after the other.
-use Rattle.std.proofs.Common.{◌≡◌, ℕ, zero, suc, ◌+◌, ◌-◌, ◌<◌, ◌≤◌, List, [], ◌∷◌, ◌++◌, length, take, map, Result, Ok, Err, IsErr, IsErrAnd, IsErrOf, OnErr, inl, inr, refl, sym, ap, ◌∙◌, subst, arith}
-use Rattle.std.proofs.lemmas.List.{map-append}
-use Rattle.std.proofs.lemmas.List.FromFn.{length-range_with_len}
+use Rattle.std.proofs.Common.{◌≡◌, ℕ, zero, suc, ◌+◌, ◌≤◌, List, [], ◌∷◌, ◌++◌, take, Result, Ok, Err, IsErr, IsErrAnd, IsErrOf, OnErr, inl, inr, refl, sym, ap, ◌∙◌, subst, arith}
 use Rattle.std.specs.List.{range_with_len}
 use Rattle.xdb_device.specs.Told.{Told, Created}
 use Rattle.xdb_device.specs.Work.{cause_of}
@@ -9,8 +7,8 @@ use Rattle.xdb_device.specs.declared.fault.DevNo.{DevNo}
 use Rattle.xdb_device.specs.declared.fault.WorkCause.{WorkCause}
 use Rattle.xdb_device.specs.declared.fault.WorkCause.TheVariants as causes
 use Rattle.xdb_rangedel.specs.Members.{Has}
-use Rattle.xdb_work.proofs.WorkLaws.{tried_none, tried_more, tried_failed, tried_next, tried_where, first_numbers, stopped_by}
-use Rattle.xdb_work.specs.Work.{nums_of, IsNext, AreFirst, Tried}
+use Rattle.xdb_work.proofs.WorkLaws.{tried_none, tried_more, tried_failed, tried_next, tried_where, first_numbers}
+use Rattle.xdb_work.specs.Work.{IsNext, Tried}
 use Rattle.xdb_build.specs.Series.{Tries, Stops}
 
 pub tries_none : (reserved nums : List ℕ) (t : Told) → nums ≡ [] → Tries reserved 0 nums t t

@@ -5,3 +5,4 @@ pub mod Outputs
 pub mod Cuts
 pub mod Fits
 pub mod Series
+pub mod Compacting

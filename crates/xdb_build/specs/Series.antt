@@ -1,5 +1,5 @@
 -- Entries and spans as the tables that are written of them one after another, and where an output ends among entries.
-use Rattle.std.specs.Prelude.{◌≡◌, ◌⊎◌, ℕ, ◌+◌, ◌-◌, ◌<◌, ◌≤◌, Bool, true, false, List, [], ◌∷◌, ◌++◌, length, map, take, drop, Option, Some, IfSome}
+use Rattle.std.specs.Prelude.{◌≡◌, ◌⊎◌, ℕ, ◌+◌, ◌-◌, ◌<◌, ◌≤◌, ◌==◌, Bool, true, false, List, [], ◌∷◌, ◌++◌, length, map, take, drop, Option, Some, None, IfSome, if◌then◌else◌}
 use Rattle.std.specs.List.{slice_get}
 use Rattle.xdb_key.specs.Entries.{Point, Tombstone}
 use Rattle.xdb_key.specs.Order.{is_below}
@@ -9,13 +9,23 @@ use Rattle.xdb_device.specs.declared.fault.WorkCause.{WorkCause}
 use Rattle.xdb_device.specs.declared.fault.WorkCause.TheVariants as causes
 use Rattle.xdb_table_r.specs.declared.error.TableNo.{TableNo}
 use Rattle.xdb_table_r.specs.declared.error.TableNo.TheVariants as no
-use Rattle.xdb_work.specs.Work.{nums_of, AreFirst, AreHeld, Tried}
+use Rattle.xdb_work.specs.Work.{nums_of, IsNext, AreFirst, AreHeld, Tried}
 use Rattle.xdb_rangedel.specs.Clip.{parts_before, parts_from}
 use Rattle.xdb_rangedel.specs.Content.{Item, entry_of, content_of}
 use Rattle.xdb_rangedel.specs.Members.{Has}
 use Rattle.xdb_build.specs.Cuts.{IsFull, IsOpen, weight_of}
 use Rattle.xdb_build.specs.Given.{Given, reserved}
 use Rattle.xdb_build.specs.Outputs.{IsInFile, IsReachOf, file_content}
+use Rattle.xdb_build.specs.declared.series.Progress.{Progress}
+
+-- what the spans have from the key of an entry on; all of it, where there is none
+abbrev pub parts_behind : Option Point → List Tombstone → List Tombstone
+parts_behind None ss = ss
+parts_behind (Some p) ss = parts_from p.key ss
+
+-- the spans that are left where an output begins; the first has all
+abbrev pub spans_left : List Point → ℕ → List Tombstone → List Tombstone
+spans_left ps from ss = if from == 0 then ss else parts_behind (slice_get ps from) ss
 
 -- each key of the entries stands before this one
 abbrev pub AreBefore : List Point → List ℕ → Type 0
@@ -105,3 +115,28 @@ pub record IsUnderWay {F : Type 0} (size : F → ℕ) (bytes : F → Option (Lis
   pub nums : nums_of files ≡ tried
   pub tries : Tries (reserved g) (num - g.first) tried start now
   pub held : AreHeld size bytes now.holds files
+
+module _ {F : Type 0} (size : F → ℕ) (bytes : F → Option (List ℕ)) where
+  -- The table of one more output, and its file under the number, stand behind the others.
+  pub record IsOneMore (num : ℕ) (c : List Item) (old new : Progress F) (before after : Told) : Type 0 where
+    pub table : Table
+    pub file : F
+    pub output : IsOutput size bytes num c table (num, file)
+    pub tables : new.tables.items ≡ old.tables.items ++ table ∷ []
+    pub files : new.files.items ≡ old.files.items ++ (num, file) ∷ []
+    pub goes : (reserved : List ℕ) (i : ℕ) (start : Told) → IsNext reserved i num
+        → Tries reserved i old.tried.items start before → Tries reserved (i + 1) new.tried.items start after
+    pub held : (Has (nums_of old.files.items) num → ⊥) → AreHeld size bytes before.holds old.files.items
+        → AreHeld size bytes after.holds new.files.items
+
+  -- an output begins at a place among the entries, with the spans that are left there
+  abbrev pub BeginsAt : Given F → List Point → List Tombstone → ℕ → ℕ → Progress F → Told → Told → Type 0
+  BeginsAt g ps ss from num made start now =
+      IsUnderWay size bytes g ps ss from num (spans_left ps from ss) made.tables.items made.files.items made.tried.items start now
+
+  -- All outputs are written.
+  pub record AreWritten (g : Given F) (ps : List Point) (ss : List Tombstone) (made : Progress F) (start now : Told) : Type 0 where
+    pub outputs : AreOutputs size bytes g.count g.first ps ss made.tables.items made.files.items
+    pub nums : nums_of made.files.items ≡ made.tried.items
+    pub tried : Stops (reserved g) made.tried.items ⊥ start now
+    pub held : AreHeld size bytes now.holds made.files.items

@@ -9,11 +9,10 @@ mod gather;
 pub mod laws;
 mod output;
 mod parts;
+mod series;
 
-pub use compact::write_output;
-pub use cuts::output_end;
+pub use compact::build_compact;
 pub use flush::build_flush;
-pub use gather::gathered;
 pub use parts::{Built, CompactWork, FlushWork, JobParts};
 pub use std::alloc::AllocError as Memory;
 

@@ -1,6 +1,10 @@
 // What no clause says: that a build answers anything but want of memory where memory is ample, and what thinned tables
 // are in examples.
-use crate::{Built, FlushWork, JobParts, build_flush, gathered, output_end};
+mod compactions;
+
+use crate::cuts::output_end;
+use crate::gather::gathered;
+use crate::{Built, FlushWork, JobParts, build_flush};
 use std::alloc::Global;
 use std::test::Fail;
 use xdb_batch::Batch;

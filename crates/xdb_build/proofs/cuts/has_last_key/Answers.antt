@@ -1,5 +1,5 @@
 -- What is left to answer of `has_last_key`.
-use Rattle.std.proofs.Common.{◌≡◌, ◌∙◌, true, sym}
+use Rattle.std.proofs.Common.{◌∙◌, sym}
 use Rattle.std.proofs.lemmas.Bool.{false≢true}
 use Rattle.xdb_build.proofs.CutLaws.{all_before, last_has}
 use Rattle.xdb_build.proofs.cuts.has_last_key.Goals as goal

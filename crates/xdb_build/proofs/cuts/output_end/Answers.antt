@@ -1,10 +1,7 @@
 -- What is left to answer of `output_end`.
-use Rattle.std.proofs.Common.{◌≡◌, ◌+◌, ◌-◌, length, take, drop, sym, subst, arith}
+use Rattle.std.proofs.Common.{◌+◌, ◌-◌, length, take, drop, sym, subst, arith}
 use Rattle.std.proofs.lemmas.List.{take_all, length-drop}
 use Rattle.xdb_build.proofs.CutLaws.{ends_behind}
-use Rattle.xdb_build.proofs.SeriesLaws.{hold_all, tables_apart, numbers_rise, few_tables, own_files, own_reaches, all_full, all_open, begin_all}
-use Rattle.xdb_build.proofs.StepLaws.{rest_none, rest_last}
-use Rattle.xdb_build.proofs.WayLaws.{next_number, fresh_number, under_way_more}
 use Rattle.xdb_build.specs.Series.{EndsFrom}
 use Rattle.xdb_build.proofs.cuts.output_end.Goals as goal
 

@@ -1,6 +1,6 @@
 -- What is left to answer of `output_len`.
-use Rattle.std.proofs.Common.{◌≡◌, ◌≤◌, length, inl, inr, arith}
-use Rattle.xdb_build.proofs.CutLaws.{fills_none, fills_more, ends_here, ends_all, order_of_taken}
+use Rattle.std.proofs.Common.{inl, inr, arith}
+use Rattle.xdb_build.proofs.CutLaws.{fills_more, ends_here, ends_all, order_of_taken}
 use Rattle.xdb_build.proofs.cuts.output_len.Goals.{else-total-ge-FULL-via-then-total-ge-FULL+else-not-has_last_key, else-total-ge-FULL-via-else-total-ge-FULL}
 use Rattle.xdb_build.proofs.cuts.output_len.Goals as goal
 

@@ -1,5 +1,5 @@
 -- What is left to answer of `gathered`.
-use Rattle.std.proofs.Common.{ap, ◌∙◌, subst}
+use Rattle.std.proofs.Common.{subst}
 use Rattle.xdb_device.proofs.Counts.{Counted-then, Counted-where}
 use Rattle.xdb_merge.specs.Tables.{NamesDamage}
 use Rattle.xdb_rangedel.specs.Members.{SameMembers}

@@ -1,8 +1,8 @@
 -- What is left to answer of `write_output`.
-use Rattle.std.proofs.Common.{◌≡◌, ◌∙◌, ◌++◌, ◌∷◌, [], ap, sym}
+use Rattle.std.proofs.Common.{◌∙◌, ◌++◌, ◌∷◌, [], ap, sym}
 use Rattle.xdb_work.proofs.WorkLaws.{held_more}
 use Rattle.xdb_build.proofs.TryLaws.{tries_more, failed_stops}
-use Rattle.xdb_build.proofs.compact.write_output.Goals as goal
+use Rattle.xdb_build.proofs.series.write_output.Goals as goal
 
 pub returns-in_err-meta-clause-stops : goal.returns-in_err-meta-clause-stops
 returns-in_err-meta-clause-stops g c =
