@@ -27,6 +27,7 @@ use Rattle.xdb_vset.specs.Seen.{Seen}
 use Rattle.xdb_engine.specs.Files.{HasNoFiles, first_set}
 use Rattle.xdb_engine.specs.Holds.{ask_holds}
 use Rattle.xdb_engine.specs.Questions.{Asking, plain_question}
+use Rattle.xdb_engine.specs.Removals.{Removing}
 use Rattle.xdb_engine.specs.State.{Stands, StateStands, SetStands, IsStep, Steps, core_of, files_of}
 use Rattle.xdb_engine.specs.declared.state.State.{State}
 
@@ -59,30 +60,32 @@ stands-pushed c d h k book now rise note s held_step seq file notes count =
       undamaged = λ t. ap has_damage notes ∙ damage-push h.notes note (step.undamaged tt) (s.undamaged t);
     }
 
--- the same of the state, after a step that booked so many faults
-module _ {F : Type 0} (bytes : F → Option (List ℕ)) {told : Type 0} (s t : State F) (h k : Recorded) (book : ℕ) (note : Note) (stands : StateStands bytes told s h book) where
+-- the same of the state, after a step that booked so many faults and took one number at most
+module _ {F : Type 0} (bytes : F → Option (List ℕ)) {told : Type 0} (s t : State F) (h k : Recorded) (r : Removing) (book : ℕ) (note : Note) (stands : StateStands bytes told s h r book) where
   abbrev step-of : {rise : ℕ} → Steps bytes rise s t note → IsStep bytes rise s t (state_of h) note
   step-of steps = steps (state_of h) stands.stands.agrees stands.stands.held stands.set
 
-  pub state-booked : (now rise : ℕ) → Steps bytes rise s t note → k.first_seq ≡ h.first_seq → k.first_file ≡ h.first_file → k.notes ≡ h.notes ++ note ∷ [] → now ≡ book + rise → StateStands bytes told t k now
-  state-booked now rise steps seq file notes count = record {
+  pub state-booked : (now rise : ℕ) (left : Removing) → Steps bytes rise s t note → k.first_seq ≡ h.first_seq → k.first_file ≡ h.first_file → k.notes ≡ h.notes ++ note ∷ [] → k.spare + 1 ≡ h.spare → now ≡ book + rise → r.room ≤ left.room + 1 → StateStands bytes told t k left now
+  state-booked now rise left steps seq file notes spare count room = record {
     stands = stands-pushed (core_of bytes s) (core_of bytes t) h k book now rise note stands.stands (step-of steps).step seq file notes count;
     set = (step-of steps).set;
+    room = let before = stands.room in omega arith;
   }
 
-  -- where no fault was booked
-  pub state-pushed : Steps bytes 0 s t note → k.first_seq ≡ h.first_seq → k.first_file ≡ h.first_file → k.notes ≡ h.notes ++ note ∷ [] → StateStands bytes told t k book
-  state-pushed steps seq file notes = state-booked book 0 steps seq file notes (omega arith)
+  -- where no fault was booked, and nothing was taken
+  pub state-pushed : Steps bytes 0 s t note → k.first_seq ≡ h.first_seq → k.first_file ≡ h.first_file → k.notes ≡ h.notes ++ note ∷ [] → k.spare + 1 ≡ h.spare → StateStands bytes told t k r book
+  state-pushed steps seq file notes spare = state-booked book 0 r steps seq file notes spare (omega arith) (omega arith)
 
 -- The same where the questions have other stories and results.
 module _ {F : Type 0} (bytes : F → Option (List ℕ)) (s : State F) (asks : List (Asking F)) (same : map plain_question asks ≡ map plain_question s.asks) (holds : (set : Seen F) → ask_holds set asks ≡ ask_holds set s.asks) where
   core-same : core_of bytes s ≡ core_of bytes (record s { asks = asks })
   core-same = λ i. core s.mem (numbers s.numbers.next s.numbers.file s.numbers.asked 0) (sym same i) (files_of bytes s.files (sym (holds s.files) i)) []
 
-  pub state-looked : {told : Type 0} (h : Recorded) (book : ℕ) → StateStands bytes told s h book → StateStands bytes told (record s { asks = asks }) h book
-  state-looked {told} h book stands = record {
+  pub state-looked : {told : Type 0} (h : Recorded) (r : Removing) (book : ℕ) → StateStands bytes told s h r book → StateStands bytes told (record s { asks = asks }) h r book
+  state-looked {told} h r book stands = record {
     stands = subst (λ c. Stands told c h book) core-same stands.stands;
     set = record { of_set = subst (λ (c : Core). AreOfSet s.files c.files) core-same stands.set.of_set; none = stands.set.none };
+    room = stands.room;
   }
 
 -- before the first note
@@ -132,10 +135,11 @@ module _ {F : Type 0} (bytes : F → Option (List ℕ)) (s : State F) (none : s.
     none = subst HasNoFiles (sym fresh) (record { levels = refl; known = refl });
   }
 
-  pub new-stands : {told : Type 0} (seq file : ℕ) (h : Recorded) (book : ℕ) → s.mem ≡ queue_opening → s.numbers.next ≡ seq → s.numbers.file ≡ file → s.numbers.asked ≡ 0 → h.first_seq ≡ seq → h.first_file ≡ file → h.notes ≡ [] → book ≡ 0 → 1 ≤ seq → seq ≤ 2 ^ 56 → file ≤ 2 ^ 56 → StateStands bytes told s h book
-  new-stands seq file h book mem next file_is asked first_seq first_file notes zero low high files = record {
+  pub new-stands : {told : Type 0} (seq file : ℕ) (h : Recorded) (r : Removing) (book : ℕ) → h.spare ≡ 0 → s.mem ≡ queue_opening → s.numbers.next ≡ seq → s.numbers.file ≡ file → s.numbers.asked ≡ 0 → h.first_seq ≡ seq → h.first_file ≡ file → h.notes ≡ [] → book ≡ 0 → 1 ≤ seq → seq ≤ 2 ^ 56 → file ≤ 2 ^ 56 → StateStands bytes told s h r book
+  new-stands seq file h r book spare mem next file_is asked first_seq first_file notes zero low high files = record {
     stands = first-stands seq file (core_of bytes s) h book (λ i. core (mem i) (numbers (next i) (file_is i) (asked i) 0) (map plain_question (none i)) (first-files i) []) first_seq first_file notes zero low high files;
     set = set-first;
+    room = omega arith;
   }
 
 -- ---- without files

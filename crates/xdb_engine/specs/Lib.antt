@@ -4,6 +4,9 @@ pub mod Questions
 pub mod Holds
 pub mod Opening
 pub mod Ends
+pub mod Shows
+pub mod Removals
+pub mod Charges
 pub mod Notes
 pub mod View
 pub mod Asks
