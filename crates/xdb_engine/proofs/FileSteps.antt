@@ -1,5 +1,5 @@
 -- What is shown, what is taken for removal, and what can't be removed: each is a step.
-use Rattle.std.proofs.Common.{◌≡◌, ℕ, ◌≤◌, Bool, true, false, eqb, ◌||◌, List, [], ◌∷◌, map, length, Option, Some, refl, sym, ap, ◌∙◌, subst, IsTrue}
+use Rattle.std.proofs.Common.{◌≡◌, ℕ, ◌≤◌, true, false, eqb, ◌||◌, List, [], ◌∷◌, map, length, Option, refl, sym, ap, ◌∙◌, subst}
 use Rattle.std.proofs.lemmas.Bool.{false≢true}
 use Rattle.xdb_lists.proofs.NumberLaws.{among_first}
 use Rattle.xdb_lists.specs.Numbers.{is_among}
@@ -15,7 +15,6 @@ use Rattle.xdb_steps.proofs.Counting.{all-counted, dead-list, least-dead}
 use Rattle.xdb_steps.proofs.JobLaws.{known-unowned}
 use Rattle.xdb_steps.proofs.RemovalSteps.{nothing, took, stuck, unremoved, unshown, levels, shows-counts, snaps}
 use Rattle.xdb_steps.proofs.SetSteps.{numbers-keep}
-use Rattle.xdb_steps.specs.Between.{Held}
 use Rattle.xdb_steps.specs.Core.{Core, core, numbers, reaped_core}
 use Rattle.xdb_steps.specs.Keeps.{Agrees}
 use Rattle.xdb_steps.specs.Notes.{plain_note}

@@ -10,4 +10,5 @@ pub mod Charges
 pub mod Notes
 pub mod View
 pub mod Asks
+pub mod Reaped
 pub mod State

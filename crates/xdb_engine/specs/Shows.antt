@@ -1,5 +1,5 @@
 -- What is shown of the files.
-use Rattle.std.specs.Prelude.{List, [], map}
+use Rattle.std.specs.Prelude.{[], map}
 use Rattle.xdb_plain.specs.declared.act.ShowWhat.{ShowWhat}
 use Rattle.xdb_plain.specs.declared.act.ShowWhat.TheVariants as show
 use Rattle.xdb_plain.specs.declared.reply.Reply.{Reply}

@@ -1,7 +1,8 @@
 -- The parts of an engine beside its history, how they step, and what every engine keeps.
-use Rattle.std.specs.Prelude.{◌≡◌, ℕ, ◌≤◌, false, List, [], map, Option, IsTrue}
+use Rattle.std.specs.Prelude.{◌≡◌, ℕ, ◌≤◌, true, false, List, [], map, Option, IsTrue}
 use Rattle.xdb_history.specs.Recorded.{Recorded, state_of}
 use Rattle.xdb_laws.specs.Tables.{contents}
+use Rattle.xdb_lists.specs.Numbers.{is_among}
 use Rattle.xdb_plain.specs.Failures.{faults, has_damage}
 use Rattle.xdb_plain.specs.Legal.{Right, TellHolds}
 use Rattle.xdb_plain.specs.State.{Plain, Hold, opening}
@@ -72,9 +73,10 @@ pub record Stands (told : Type 0) (c : Core) (h : Recorded) (book : ℕ) : Type 
   pub undamaged : told → has_damage h.notes ≡ false
 
 -- The same of an engine's state, with what holds of its set. There is room for the number that the step of each note may
--- take.
+-- take, and each whose removal hasn't ended was taken.
 pub record StateStands {F : Type 0} (bytes : F → Option (List ℕ)) (told : Type 0) (s : State F) (h : Recorded)
     (r : Removing) (book : ℕ) : Type 0 where
   pub stands : Stands told (core_of bytes s) h book
   pub set : SetStands bytes s
   pub room : h.spare ≤ r.room
+  pub taken : (n : ℕ) → is_among n r.numbers ≡ true → is_among n (state_of h).taken ≡ true

@@ -9,10 +9,11 @@ ghost use Rattle.xdb_plain.specs.declared.act.Act.TheVariants as act;
 ghost use Rattle.xdb_plain.specs.declared.act.By.TheVariants.{Db};
 ghost use Rattle.xdb_plain.specs.declared.reply.Reply.TheVariants.{Stuck};
 ghost use Rattle.xdb_steps.specs.Notes.{plain_note};
-ghost use Rattle.xdb_engine.specs.Charges.{Charges};
+ghost use Rattle.xdb_engine.specs.Charges.{Charges, ChargesIf};
 ghost use Rattle.xdb_engine.specs.Notes.{IsPlain};
 ghost use Rattle.xdb_engine.specs.Removals.{reap_reply, taken_by, without_number};
 ghost use Rattle.xdb_engine.specs.State.{Steps};
+ghost use Rattle.xdb_engine.specs.Reaped.{EndsRemoval, is_stuck, stays_note};
 ghost use Rattle.xdb_engine.specs.View.{Adds, AddsFault, plain_of};
 
 use crate::Engine;
@@ -76,15 +77,18 @@ impl Removals {
         }
     }
 
-    /// Takes the number out, and answers whether it was there.
-    fn take_out(&mut self, num: u64) -> bool
-        ensures there { result ≡ is_among num self.old.numbers }
+    fn has(&self, num: u64) -> bool
+        ensures { result ≡ is_among num self.now.numbers }
+    {
+        self.numbers.iter().any(|other| *other == num)
+    }
+
+    /// Takes the number out.
+    fn take_out(&mut self, num: u64)
         ensures numbers { self.new.numbers ≡ without_number num self.old.numbers }
         ensures room { self.old.room ≤ self.new.room }
     {
-        let there = self.numbers.iter().any(|other| *other == num);
         self.numbers.retain(|other| *other != num);
-        there
     }
 }
 
@@ -126,12 +130,55 @@ impl<F: FileRef, L: Ledger> Engine<F, L> {
         ensures removals { self.new.removals ≡ self.old.removals }
         ensures charged { Charges rig.old rig.new }
     {
-        let act = Act::Remove { num };
-        let verdict = Verdict::new(self.alloc, By::Db, act, Reply::Stuck, Reply::Stuck);
+        let verdict = stays(self.alloc, num, Reply::Stuck, Reply::Stuck);
         self.book.charge(rig);
         self.history.push(verdict.note);
         verdict.reply
     }
+
+    /// The removal of a dead number's file ended. Where it failed, which is booked, or memory was
+    /// wanting, a note tells so. The number isn't tried again. Where this engine doesn't wait for the
+    /// removal, nothing is told. It takes no memory.
+    pub fn reaped<R: Reader>(
+        &mut self,
+        dead: Dead,
+        answer: Result<(), DevNo>,
+        rig: &mut Rig<'_, R, L>,
+    )
+        requires removal { removal_of rig.old ≡ Some (dead, answer) }
+        requires room { OnErr answer (1 ≤ self.old.spare) }
+        requires unspent { answer ≡ Err Failed → Rose (spent_of rig.old) (risen_of rig.old) }
+        ensures ends { EndsRemoval dead answer self.old self.new }
+        ensures charged { ChargesIf (is_stuck dead answer self.old.removals) rig.old rig.new }
+    {
+        let num = dead.num();
+        self.state.files.spend(dead);
+        if !self.removals.has(num) {
+            return;
+        }
+        self.removals.take_out(num);
+        match answer {
+            Ok(()) => (),
+            Err(DevNo::Failed) => {
+                let verdict = stays(self.alloc, num, Reply::Stuck, Reply::Stuck);
+                self.book.charge(rig);
+                self.history.push(verdict.note);
+            }
+            Err(DevNo::Memory) => {
+                let verdict = stays(self.alloc, num, Reply::Memory, Reply::Memory);
+                self.history.push(verdict.note);
+            }
+        }
+    }
+}
+
+/// The file of the number stays.
+fn stays(alloc: Global, num: u64, noted: Reply, reply: Reply) -> Verdict
+    requires { noted ≡ reply }
+    ensures note { result.note ≡ stays_note num reply }
+    ensures reply { result.reply ≡ reply }
+{
+    Verdict::new(alloc, By::Db, Act::Remove { num }, noted, reply)
 }
 
 /// Takes the least dead number.

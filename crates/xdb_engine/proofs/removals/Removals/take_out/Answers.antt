@@ -1,5 +1,5 @@
 -- The others stay.
-use Rattle.std.proofs.Common.{rules, not, ◌≡◌, eqb, ap, ◌∙◌}
+use Rattle.std.proofs.Common.{rules, not, eqb, ap, ◌∙◌}
 use Rattle.std.proofs.lemmas.Fn.{filter_same}
 use Rattle.xdb_engine.specs.Removals.{without_number}
 use Rattle.xdb_engine.proofs.removals.Removals.take_out.Goals as goal
