@@ -1,4 +1,5 @@
 mod AskLaws
+mod FileSteps
 mod SetLaws
 mod StateLaws
 mod StepLaws

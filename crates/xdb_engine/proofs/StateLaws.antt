@@ -1,12 +1,14 @@
 -- What an engine keeps from note to note.
-use Rattle.std.proofs.Common.{◌≡◌, ℕ, ◌+◌, ◌≤◌, ◌^◌, false, ◌||◌, List, [], ◌∷◌, ◌++◌, map, filter, Option, refl, sym, ap, ◌∙◌, subst, arith}
-use Rattle.std.proofs.lemmas.Bool.{false≢true}
+use Rattle.std.proofs.Common.{◌≡◌, ℕ, ◌+◌, ◌≤◌, ◌^◌, Bool, true, false, cond, eqb, not, ◌||◌, append-nil, Some, None, List, [], ◌∷◌, ◌++◌, map, filter, Option, refl, sym, ap, ◌∙◌, subst, arith}
+use Rattle.std.proofs.lemmas.Bool.{false≢true, or_left, or_right}
+use Rattle.std.proofs.lemmas.List.Folds.{list_any-append}
+use Rattle.std.specs.List.{list_any}
 use Rattle.std.proofs.lemmas.List.Elements.{All-nil}
 use Rattle.xdb_history.specs.Recorded.{Recorded, state_of}
 use Rattle.xdb_lists.proofs.NumberLaws.{among_first}
 use Rattle.xdb_lists.specs.Numbers.{is_among}
 use Rattle.xdb_mem.specs.Queue.{opening as queue_opening}
-use Rattle.xdb_plain.specs.Changes.{after}
+use Rattle.xdb_plain.specs.Changes.{after, taken_after}
 use Rattle.xdb_plain.specs.Failures.{is_damage, faults, has_damage}
 use Rattle.xdb_plain.specs.Holds.{HoldsFit}
 use Rattle.xdb_plain.specs.Legal.{after_all, Right, TellHolds}
@@ -15,6 +17,8 @@ use Rattle.xdb_plain.specs.State.{Plain, Version, Hold, opening}
 use Rattle.xdb_plain.proofs.FailureLaws.{faults-append, has_damage-append}
 use Rattle.xdb_plain.proofs.HistoryLaws.{after_all-push, right_push}
 use Rattle.xdb_plain.specs.declared.note.Note.{Note}
+use Rattle.xdb_plain.specs.declared.reply.Reply.{Reply}
+use Rattle.xdb_plain.specs.declared.reply.Reply.TheVariants.{Took}
 use Rattle.xdb_steps.specs.Between.{Held}
 use Rattle.xdb_steps.specs.Core.{Core, Files, core, holders, numbers, no_files}
 use Rattle.xdb_steps.specs.Keeps.{Agrees, Means}
@@ -27,6 +31,7 @@ use Rattle.xdb_vset.specs.Seen.{Seen}
 use Rattle.xdb_engine.specs.Files.{HasNoFiles, first_set}
 use Rattle.xdb_engine.specs.Holds.{ask_holds}
 use Rattle.xdb_engine.specs.Questions.{Asking, plain_question}
+use Rattle.xdb_engine.specs.Removals.{Removing, reap_reply, taken_by, without_number}
 use Rattle.xdb_engine.specs.State.{Stands, StateStands, SetStands, IsStep, Steps, core_of, files_of}
 use Rattle.xdb_engine.specs.declared.state.State.{State}
 
@@ -59,30 +64,86 @@ stands-pushed c d h k book now rise note s held_step seq file notes count =
       undamaged = λ t. ap has_damage notes ∙ damage-push h.notes note (step.undamaged tt) (s.undamaged t);
     }
 
--- the same of the state, after a step that booked so many faults
-module _ {F : Type 0} (bytes : F → Option (List ℕ)) {told : Type 0} (s t : State F) (h k : Recorded) (book : ℕ) (note : Note) (stands : StateStands bytes told s h book) where
+-- what was taken stays so
+pub taken-stays : (ns : List ℕ) (reply : Reply) (n : ℕ) → is_among n ns ≡ true → is_among n (taken_after ns reply) ≡ true
+taken-stays ns (Took num) n there = list_any-append (λ m. eqb m n) ns (num ∷ []) ∙ or_left (is_among n ns) (list_any (λ m. eqb m n) (num ∷ [])) there
+taken-stays ns _ n there = there
+
+-- the same of the state, after a step that booked so many faults and took one number at most
+module _ {F : Type 0} (bytes : F → Option (List ℕ)) {told : Type 0} (s t : State F) (h k : Recorded) (r : Removing) (book : ℕ) (note : Note) (stands : StateStands bytes told s h r book) where
   abbrev step-of : {rise : ℕ} → Steps bytes rise s t note → IsStep bytes rise s t (state_of h) note
   step-of steps = steps (state_of h) stands.stands.agrees stands.stands.held stands.set
 
-  pub state-booked : (now rise : ℕ) → Steps bytes rise s t note → k.first_seq ≡ h.first_seq → k.first_file ≡ h.first_file → k.notes ≡ h.notes ++ note ∷ [] → now ≡ book + rise → StateStands bytes told t k now
-  state-booked now rise steps seq file notes count = record {
+  pub state-booked : (now rise : ℕ) (left : Removing) → Steps bytes rise s t note → k.first_seq ≡ h.first_seq → k.first_file ≡ h.first_file → k.notes ≡ h.notes ++ note ∷ [] → k.spare + 1 ≡ h.spare → now ≡ book + rise → r.room ≤ left.room + 1 → ((n : ℕ) → is_among n left.numbers ≡ true → is_among n (after (state_of h) note).taken ≡ true) → StateStands bytes told t k left now
+  state-booked now rise left steps seq file notes spare count room waits = record {
     stands = stands-pushed (core_of bytes s) (core_of bytes t) h k book now rise note stands.stands (step-of steps).step seq file notes count;
     set = (step-of steps).set;
+    room = let before = stands.room in omega arith;
+    taken = λ n there. ap (λ (p : Plain). is_among n p.taken) state ∙ waits n there;
   }
+    where
+      state : state_of k ≡ after (state_of h) note
+      state = (λ i. after_all (opening (seq i) (file i)) (notes i)) ∙ after_all-push (opening h.first_seq h.first_file) h.notes note
 
-  -- where no fault was booked
-  pub state-pushed : Steps bytes 0 s t note → k.first_seq ≡ h.first_seq → k.first_file ≡ h.first_file → k.notes ≡ h.notes ++ note ∷ [] → StateStands bytes told t k book
-  state-pushed steps seq file notes = state-booked book 0 steps seq file notes (omega arith)
+  -- the numbers that wait are those before
+  pub still-wait : (n : ℕ) → is_among n r.numbers ≡ true → is_among n (after (state_of h) note).taken ≡ true
+  still-wait n there = taken-stays (state_of h).taken note.reply n (stands.taken n there)
+
+  -- where no fault was booked, and nothing was taken
+  pub state-pushed : Steps bytes 0 s t note → k.first_seq ≡ h.first_seq → k.first_file ≡ h.first_file → k.notes ≡ h.notes ++ note ∷ [] → k.spare + 1 ≡ h.spare → StateStands bytes told t k r book
+  state-pushed steps seq file notes spare = state-booked book 0 r steps seq file notes spare (omega arith) (omega arith) still-wait
+
+or_either : (a b c : Bool) → (b ≡ true → c ≡ true) → (a || b) ≡ true → (a || c) ≡ true
+or_either true b c from there = refl
+or_either false b c from there = from there
+
+-- where a number is taken, if one is
+pub taken-waits : (ns ms : List ℕ) (o : Option ℕ) → ((n : ℕ) → is_among n ms ≡ true → is_among n ns ≡ true) → (n : ℕ) → is_among n (ms ++ taken_by o) ≡ true → is_among n (taken_after ns (reap_reply o)) ≡ true
+taken-waits ns ms None from n there = from n (sym (ap (is_among n) (append-nil ms)) ∙ there)
+taken-waits ns ms (Some num) from n there =
+    list_any-append (λ m. eqb m n) ns (num ∷ []) ∙ or_more (is_among n ms) (is_among n ns) (list_any (λ m. eqb m n) (num ∷ [])) (from n) (sym (list_any-append (λ m. eqb m n) ms (num ∷ [])) ∙ there)
+  where
+    or_more : (a b c : Bool) → (a ≡ true → b ≡ true) → (a || c) ≡ true → (b || c) ≡ true
+    or_more true b c from there = or_left b c (from refl)
+    or_more false b c from there = or_right b c there
+
+-- The same where fewer numbers wait.
+pub state-left : {F : Type 0} (bytes : F → Option (List ℕ)) {told : Type 0} (s : State F) (h : Recorded) (r left : Removing) (book num : ℕ) → StateStands bytes told s h r book → r.room ≤ left.room → left.numbers ≡ without_number num r.numbers → StateStands bytes told s h left book
+state-left bytes s h r left book num stands room is = record {
+  stands = stands.stands;
+  set = stands.set;
+  room = let before = stands.room in omega arith;
+  taken = λ n there. stands.taken n (list_any-filter n num r.numbers (sym (ap (is_among n) is) ∙ there));
+}
+  where
+    by : (n m num : ℕ) (ms : List ℕ) (t : Bool) → (is_among n (without_number num ms) ≡ true → is_among n ms ≡ true) → is_among n (cond (not t) (m ∷ without_number num ms) (without_number num ms)) ≡ true → (eqb m n || is_among n ms) ≡ true
+    by n m num ms true rest there = or_right (eqb m n) (is_among n ms) (rest there)
+    by n m num ms false rest there = or_either (eqb m n) (is_among n (without_number num ms)) (is_among n ms) rest there
+
+    list_any-filter : (n num : ℕ) (ms : List ℕ) → is_among n (without_number num ms) ≡ true → is_among n ms ≡ true
+    list_any-filter n num [] there = there
+    list_any-filter n num (m ∷ ms) there = by n m num ms (eqb m num) (list_any-filter n num ms) there
+
+-- The same of a set that is as before.
+pub state-spent : {F : Type 0} (bytes : F → Option (List ℕ)) {told : Type 0} (s : State F) (files : Seen F) (h : Recorded) (r : Removing) (book : ℕ) → files ≡ s.files → StateStands bytes told s h r book → StateStands bytes told (record s { files = files }) h r book
+state-spent bytes {told} s files h r book same stands = subst (λ f. StateStands bytes told (record s { files = f }) h r book) (sym same) (record {
+  stands = stands.stands;
+  set = record { of_set = stands.set.of_set; none = stands.set.none };
+  room = stands.room;
+  taken = stands.taken;
+})
 
 -- The same where the questions have other stories and results.
 module _ {F : Type 0} (bytes : F → Option (List ℕ)) (s : State F) (asks : List (Asking F)) (same : map plain_question asks ≡ map plain_question s.asks) (holds : (set : Seen F) → ask_holds set asks ≡ ask_holds set s.asks) where
   core-same : core_of bytes s ≡ core_of bytes (record s { asks = asks })
   core-same = λ i. core s.mem (numbers s.numbers.next s.numbers.file s.numbers.asked 0) (sym same i) (files_of bytes s.files (sym (holds s.files) i)) []
 
-  pub state-looked : {told : Type 0} (h : Recorded) (book : ℕ) → StateStands bytes told s h book → StateStands bytes told (record s { asks = asks }) h book
-  state-looked {told} h book stands = record {
+  pub state-looked : {told : Type 0} (h : Recorded) (r : Removing) (book : ℕ) → StateStands bytes told s h r book → StateStands bytes told (record s { asks = asks }) h r book
+  state-looked {told} h r book stands = record {
     stands = subst (λ c. Stands told c h book) core-same stands.stands;
     set = record { of_set = subst (λ (c : Core). AreOfSet s.files c.files) core-same stands.set.of_set; none = stands.set.none };
+    room = stands.room;
+    taken = stands.taken;
   }
 
 -- before the first note
@@ -132,10 +193,12 @@ module _ {F : Type 0} (bytes : F → Option (List ℕ)) (s : State F) (none : s.
     none = subst HasNoFiles (sym fresh) (record { levels = refl; known = refl });
   }
 
-  pub new-stands : {told : Type 0} (seq file : ℕ) (h : Recorded) (book : ℕ) → s.mem ≡ queue_opening → s.numbers.next ≡ seq → s.numbers.file ≡ file → s.numbers.asked ≡ 0 → h.first_seq ≡ seq → h.first_file ≡ file → h.notes ≡ [] → book ≡ 0 → 1 ≤ seq → seq ≤ 2 ^ 56 → file ≤ 2 ^ 56 → StateStands bytes told s h book
-  new-stands seq file h book mem next file_is asked first_seq first_file notes zero low high files = record {
+  pub new-stands : {told : Type 0} (seq file : ℕ) (h : Recorded) (r : Removing) (book : ℕ) → h.spare ≡ 0 → r.numbers ≡ [] → s.mem ≡ queue_opening → s.numbers.next ≡ seq → s.numbers.file ≡ file → s.numbers.asked ≡ 0 → h.first_seq ≡ seq → h.first_file ≡ file → h.notes ≡ [] → book ≡ 0 → 1 ≤ seq → seq ≤ 2 ^ 56 → file ≤ 2 ^ 56 → StateStands bytes told s h r book
+  new-stands seq file h r book spare nobody mem next file_is asked first_seq first_file notes zero low high files = record {
     stands = first-stands seq file (core_of bytes s) h book (λ i. core (mem i) (numbers (next i) (file_is i) (asked i) 0) (map plain_question (none i)) (first-files i) []) first_seq first_file notes zero low high files;
     set = set-first;
+    room = omega arith;
+    taken = λ n there. absurd (false≢true (sym (ap (is_among n) nobody) ∙ there));
   }
 
 -- ---- without files

@@ -4,7 +4,11 @@ pub mod Questions
 pub mod Holds
 pub mod Opening
 pub mod Ends
+pub mod Shows
+pub mod Removals
+pub mod Charges
 pub mod Notes
 pub mod View
 pub mod Asks
+pub mod Reaped
 pub mod State

@@ -1,7 +1,8 @@
 -- The parts of an engine beside its history, how they step, and what every engine keeps.
-use Rattle.std.specs.Prelude.{◌≡◌, ℕ, false, List, [], map, Option, IsTrue}
+use Rattle.std.specs.Prelude.{◌≡◌, ℕ, ◌≤◌, true, false, List, [], map, Option, IsTrue}
 use Rattle.xdb_history.specs.Recorded.{Recorded, state_of}
 use Rattle.xdb_laws.specs.Tables.{contents}
+use Rattle.xdb_lists.specs.Numbers.{is_among}
 use Rattle.xdb_plain.specs.Failures.{faults, has_damage}
 use Rattle.xdb_plain.specs.Legal.{Right, TellHolds}
 use Rattle.xdb_plain.specs.State.{Plain, Hold, opening}
@@ -17,6 +18,7 @@ use Rattle.xdb_vset.specs.Seen.{Seen}
 use Rattle.xdb_engine.specs.Files.{HasNoFiles, content_by}
 use Rattle.xdb_engine.specs.Holds.{ask_holds}
 use Rattle.xdb_engine.specs.Questions.{plain_question}
+use Rattle.xdb_engine.specs.Removals.{Removing}
 use Rattle.xdb_engine.specs.declared.state.State.{State}
 
 -- `bytes` is what files tell
@@ -70,8 +72,11 @@ pub record Stands (told : Type 0) (c : Core) (h : Recorded) (book : ℕ) : Type 
   pub booked : book ≡ faults h.notes
   pub undamaged : told → has_damage h.notes ≡ false
 
--- the same of an engine's state, with what holds of its set
-pub record StateStands {F : Type 0} (bytes : F → Option (List ℕ)) (told : Type 0) (s : State F) (h : Recorded) (book : ℕ)
-    : Type 0 where
+-- The same of an engine's state, with what holds of its set. There is room for the number that the step of each note may
+-- take, and each whose removal hasn't ended was taken.
+pub record StateStands {F : Type 0} (bytes : F → Option (List ℕ)) (told : Type 0) (s : State F) (h : Recorded)
+    (r : Removing) (book : ℕ) : Type 0 where
   pub stands : Stands told (core_of bytes s) h book
   pub set : SetStands bytes s
+  pub room : h.spare ≤ r.room
+  pub taken : (n : ℕ) → is_among n r.numbers ≡ true → is_among n (state_of h).taken ≡ true

@@ -23,16 +23,19 @@ pub record EngineView (F : Type 0) : Type 0 where
   pub spare : ℕ
   -- the open questions
   pub questions : List (Asking F)
+  -- the numbers that were taken, each until the removal of its file ends
+  pub removals : List ℕ
   -- how many failures of devices were booked
   pub book : ℕ
 
-abbrev pub engine_view : {F : Type 0} → Recorded → List (Asking F) → ℕ → EngineView F
-engine_view h questions book = record {
+abbrev pub engine_view : {F : Type 0} → Recorded → List (Asking F) → List ℕ → ℕ → EngineView F
+engine_view h questions removals book = record {
   first_seq = h.first_seq;
   first_file = h.first_file;
   notes = h.notes;
   spare = h.spare;
   questions = questions;
+  removals = removals;
   book = book;
 }
 
@@ -51,6 +54,16 @@ pub record Adds {F : Type 0} (old new : EngineView F) (note : Note) : Type 0 whe
   pub first_seq : new.first_seq ≡ old.first_seq
   pub first_file : new.first_file ≡ old.first_file
   pub book : new.book ≡ old.book
+
+-- The same, where the note tells that a device failed: that is booked.
+pub record AddsFault {F : Type 0} (old new : EngineView F) (note : Note) : Type 0 where
+  pub notes : new.notes ≡ old.notes ++ note ∷ []
+  pub stands : MayStand (plain_of old) note
+  pub holds : HoldsFit (plain_of old) note
+  pub spare : new.spare + 1 ≡ old.spare
+  pub first_seq : new.first_seq ≡ old.first_seq
+  pub first_file : new.first_file ≡ old.first_file
+  pub book : new.book ≡ old.book + 1
 
 -- All but the questions stays.
 abbrev pub with_questions : {F : Type 0} → EngineView F → List (Asking F) → EngineView F

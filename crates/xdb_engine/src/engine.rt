@@ -1,5 +1,5 @@
 //! The engine. Its calls stand with their topics.
-ghost use Rattle.std.specs.Prelude.{◌≡◌, ◌+◌, ◌*◌, ◌≤◌, ◌^◌, [], false, length, map, All, OnOk, OnErr};
+ghost use Rattle.std.specs.Prelude.{◌≡◌, ◌+◌, ◌*◌, ◌≤◌, ◌^◌, [], false, length, map, All, IfSome, OnOk, OnErr};
 ghost use Rattle.xdb_plain.specs.Counts.{dead};
 ghost use Rattle.xdb_plain.specs.Failures.{faults, has_damage};
 ghost use Rattle.xdb_plain.specs.Legal.{IsRight, TellHolds};
@@ -8,6 +8,8 @@ ghost use Rattle.xdb_engine.specs.Files.{AreTold};
 ghost use Rattle.xdb_engine.specs.Questions.{plain_question, FitsGiven, HasNumber};
 ghost use Rattle.xdb_engine.specs.View.{plain_of};
 
+use crate::journal::Journal;
+use crate::removals::Removals;
 use crate::state::State;
 use std::alloc::{AllocError, Global};
 use std::marker::Model;
@@ -24,8 +26,10 @@ use xdb_plain::Note;
 pub struct Engine<F: FileRef, L: Ledger> {
     pub(crate) alloc: Global,
     pub(crate) state: State<F>,
-    pub(crate) history: History,
-    book: FaultBook<L>,
+    pub(crate) history: Journal,
+    /// Whose files are being removed.
+    pub(crate) removals: Removals,
+    pub(crate) book: FaultBook<L>,
 }
 
 impl<F: FileRef, L: Ledger> Model for Engine<F, L> {
@@ -35,9 +39,9 @@ impl<F: FileRef, L: Ledger> Model for Engine<F, L> {
 
     ghost Value = { EngineView F };
 
-    ghost view = { λ e. engine_view e.history e.state.asks e.book };
+    ghost view = { λ e. engine_view e.history e.state.asks e.removals.numbers e.book };
 
-    ghost invariant = { λ e. StateStands F.bytes (AreTold F.bytes) e.state e.history e.book };
+    ghost invariant = { λ e. StateStands F.bytes (AreTold F.bytes) e.state e.history e.removals e.book };
 }
 
 impl<F: FileRef, L: Ledger> Engine<F, L> {
@@ -53,25 +57,31 @@ impl<F: FileRef, L: Ledger> Engine<F, L> {
         ensures file { result.first_file ≡ first_file }
         ensures notes { result.notes ≡ [] }
         ensures questions { result.questions ≡ [] }
+        ensures removals { result.removals ≡ [] }
         ensures book { result.book ≡ 0 }
     {
         Engine {
             alloc,
             state: State::new(alloc, first_seq, first_file),
-            history: History::new(alloc, first_seq, first_file),
+            history: Journal::new(alloc, first_seq, first_file),
+            removals: Removals::new(alloc),
             book,
         }
     }
 
-    /// Makes room for the notes of what is open and for four more. An error means that memory ran
+    /// Makes room for the notes of what is open or being removed, and for four more. An error means that memory ran
     /// out.
     pub fn ready(&mut self) -> Result<(), AllocError>
-        ensures room { OnOk result (4 + 2 * length self.new.questions ≤ self.new.spare) }
+        ensures room { OnOk result
+            (4 + 2 * (length self.new.questions + length self.new.removals) ≤ self.new.spare) }
         ensures no_less { self.old.spare ≤ self.new.spare }
         ensures same { self.new ≡ record self.old { spare = self.new.spare } }
         ensures unchanged { OnErr result (self.new ≡ self.old) }
     {
-        self.history.reserve(4 + 2 * self.state.asks.len())
+        let Some(more) = notes_for(self.state.asks.len(), self.removals.len()) else {
+            return Err(AllocError);
+        };
+        self.history.reserve(&mut self.removals, more)
     }
 
     /// For how many more notes there is room.
@@ -117,6 +127,16 @@ impl<F: FileRef, L: Ledger> Engine<F, L> {
         // No file is there yet that could be removed.
         ensures clean { dead (plain_of self) ≡ [] }
     {
-        (self.history, self.book)
+        (self.history.into_history(), self.book)
     }
+}
+
+/// How many notes so many questions and removals may need.
+fn notes_for(questions: usize, removals: usize) -> Option<usize>
+    ensures { IfSome result (λ more. more ≡ 4 + 2 * (questions + removals)) }
+{
+    questions
+        .checked_add(removals)?
+        .checked_mul(2)?
+        .checked_add(4)
 }

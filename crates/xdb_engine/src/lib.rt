@@ -8,8 +8,11 @@ mod engine;
 mod failures;
 mod holds;
 mod ids;
+mod journal;
 mod notes;
 mod questions;
+mod removals;
+mod shows;
 mod state;
 mod works;
 

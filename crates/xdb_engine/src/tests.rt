@@ -11,8 +11,9 @@ use xdb_batch::Batch;
 use xdb_device::{FaultBook, MemDevice, MemFile};
 use xdb_key::Key;
 use xdb_order::Hand;
-use xdb_plain::{Act, Answer, CommitForm, Question, Reply};
+use xdb_plain::{Act, Answer, CommitForm, Question, Reply, ShowWhat};
 use xdb_read::{ReadWork, answer};
+use xdb_vset::VersionSet;
 
 /// A reply without what it owns; of a value its first byte.
 #[derive(Clone, Copy, Debug, PartialEq, Eq)]
@@ -220,6 +221,39 @@ fn most_questions<L: Ledger>(alloc: Global, engine: &mut Engine<MemFile, L>) -> 
     Ok(ask(alloc, engine, 1, true)?.0 == Told::TooMany)
 }
 
+/// There are no files yet: what is shown says so, and nothing is dead.
+fn inside<L: Ledger>(alloc: Global, engine: &mut Engine<MemFile, L>) -> Result<bool, Fail> {
+    engine.ready()?;
+    let levels = is_shown(&engine.show(ShowWhat::Levels));
+    let counts = is_shown(&engine.show(ShowWhat::Counts));
+    let snaps = is_shown(&engine.show(ShowWhat::Snaps));
+    Ok(levels && counts && snaps && engine.dead_len() == 0 && takes_nothing(alloc, engine))
+}
+
+/// Seven levels without tables, no counts, or no snapshots.
+fn is_shown(reply: &Reply) -> bool {
+    match reply {
+        Reply::Levels(levels) => levels.list().len() == 7,
+        Reply::Counts(counts) => counts.list().is_empty(),
+        Reply::Snaps(snaps) => snaps.list().is_empty(),
+        _ => false,
+    }
+}
+
+fn takes_nothing<L: Ledger>(alloc: Global, engine: &mut Engine<MemFile, L>) -> bool
+    requires { 1 ≤ engine.old.spare }
+{
+    let (reply, dead) = engine.reap();
+    let told = kind_of(&reply) == Told::Nothing;
+    match dead {
+        None => told,
+        Some(dead) => {
+            VersionSet::<MemFile>::new(alloc).spend(dead);
+            false
+        }
+    }
+}
+
 /// What is played on an engine of its own, and its first sequence number.
 #[derive(Clone, Copy, Debug)]
 enum Scene {
@@ -227,6 +261,7 @@ enum Scene {
     Seals,
     AskedBefore,
     Lack,
+    Inside,
     Thousands,
     MostQuestions,
 }
@@ -251,6 +286,7 @@ fn play<L: Ledger>(
         Scene::Seals => seals(alloc, engine),
         Scene::AskedBefore => asked_before(alloc, engine),
         Scene::Lack => lack(alloc, engine),
+        Scene::Inside => inside(alloc, engine),
         Scene::Thousands => thousands(alloc, engine),
         Scene::MostQuestions => most_questions(alloc, engine),
     }
@@ -273,6 +309,7 @@ fn each_scene_is_right(rt: HostRuntime) -> Result<(), Fail> {
         Scene::Seals,
         Scene::AskedBefore,
         Scene::Lack,
+        Scene::Inside,
         Scene::MostQuestions,
         Scene::Thousands,
     ] {

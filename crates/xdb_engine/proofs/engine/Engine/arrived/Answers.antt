@@ -5,4 +5,4 @@ use Rattle.xdb_engine.proofs.engine.Engine.arrived.Goals as goal
 pub invariant_of-self : goal.invariant_of-self
 invariant_of-self g c =
     let e = c.self.inside in
-    state-looked g.F.FileRef.bytes e.state c.look.new.asks c.look.ensures.same c.look.ensures.holds e.history e.book c.self.invariant
+    state-looked g.F.FileRef.bytes e.state c.look.new.asks c.look.ensures.same c.look.ensures.holds e.history e.removals e.book c.self.invariant

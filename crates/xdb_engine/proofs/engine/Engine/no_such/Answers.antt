@@ -11,5 +11,5 @@ pub invariant_of-self : goal.invariant_of-self
 invariant_of-self g c =
     let e = c.self.inside in
     let is = c.new-verdict.ensures.note ∙ ap (plain_note Db c.args.act) c.new-verdict.ensures.reply in
-    state-pushed g.F.FileRef.bytes e.state e.state e.history c.push.new.self e.book (plain_note Db c.args.act NoSuch) c.self.invariant
-    (no_work-steps e.state g.F.FileRef.bytes c.args.act c.requires.work) c.push.ensures.seq c.push.ensures.file (c.push.ensures.notes ∙ ap (λ n. e.history.notes ++ n ∷ []) is)
+    state-pushed g.F.FileRef.bytes e.state e.state e.history c.push.new.self e.removals e.book (plain_note Db c.args.act NoSuch) c.self.invariant
+    (no_work-steps e.state g.F.FileRef.bytes c.args.act c.requires.work) c.push.ensures.seq c.push.ensures.file (c.push.ensures.notes ∙ ap (λ n. e.history.notes ++ n ∷ []) is) c.push.ensures.spare

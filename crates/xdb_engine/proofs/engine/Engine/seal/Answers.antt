@@ -5,5 +5,5 @@ use Rattle.xdb_engine.proofs.engine.Engine.seal.Goals as goal
 pub invariant_of-self : goal.invariant_of-self
 invariant_of-self g c =
     let e = c.self.inside in
-    state-pushed g.F.FileRef.bytes e.state c.seal-verdict.new.state e.history c.push.new.self e.book c.seal-verdict.result.note c.self.invariant
-    (c.seal-verdict.ensures.step) c.push.ensures.seq c.push.ensures.file c.push.ensures.notes
+    state-pushed g.F.FileRef.bytes e.state c.seal-verdict.new.state e.history c.push.new.self e.removals e.book c.seal-verdict.result.note c.self.invariant
+    (c.seal-verdict.ensures.step) c.push.ensures.seq c.push.ensures.file c.push.ensures.notes c.push.ensures.spare

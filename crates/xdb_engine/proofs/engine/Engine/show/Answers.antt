@@ -1,0 +1,9 @@
+-- What is shown is a step.
+use Rattle.xdb_engine.proofs.StateLaws.{state-pushed}
+use Rattle.xdb_engine.proofs.engine.Engine.show.Goals as goal
+
+pub invariant_of-self : goal.invariant_of-self
+invariant_of-self g c =
+    let e = c.self.inside in
+    state-pushed g.F.FileRef.bytes e.state e.state e.history c.push.new.self e.removals e.book c.show-verdict.result.note c.self.invariant
+    c.show-verdict.ensures.step c.push.ensures.seq c.push.ensures.file c.push.ensures.notes c.push.ensures.spare

@@ -1,0 +1,6 @@
+-- The first tables are copied.
+use Rattle.std.proofs.Common.{◌≡◌, take}
+use Rattle.xdb_engine.proofs.shows.copy_tables.Given as goal
+
+abbrev pub invariant-loop-table : goal.invariant-loop-table
+invariant-loop-table l = l.copy.items ≡ take l.table-index l.tables
